@@ -22,8 +22,9 @@ fn is_same(first: &[u8; 512], second: &[u8; 512]) -> bool
     first.as_slice() == second.as_slice()
 }
 
-/// Keeps block `n`, if it is changed and differs from what it was.
-fn keep_changed<B: Blocks>(
+/// Adds block `n` to the kept ones, if it is changed and differs from the one below. No other block is looked at, and each stays
+/// as it was. Fails only when out of memory.
+pub fn keep_changed<B: Blocks>(
     kept: &mut ChangedBlocks,
     now: &ChangedOver<'_, B>,
     n: u32,

@@ -16,7 +16,7 @@ mod mounting;
 mod noted;
 mod opening;
 
-pub use crate::keeping::kept_blocks;
+pub use crate::keeping::{keep_changed, kept_blocks};
 pub use crate::laws::{changes_carry_over, copies_answer, kept_forks_are_alike};
 pub use crate::mending::{Mended, mend_needed};
 pub use crate::mounting::mount_read;

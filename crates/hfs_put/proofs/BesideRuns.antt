@@ -1,15 +1,19 @@
--- The runs in which a block begins, and the blocks of a patch beside them.
-use Rattle.std.proofs.Common.{◌≡◌, ⊎_elim, inl, inr, ℕ, ◌+◌, ◌-◌, ◌<◌, ◌≤◌, Bool, true, false, cond, ◌&&◌, leb, ltb, List, [], length, get_or, Option, Some, None, refl, sym, ap, ◌∙◌, subst, arith}
-use Rattle.std.specs.List.{list_any}
+-- The runs in which a block begins, and the changed blocks beside them.
+use Rattle.std.proofs.Common.{◌≡◌, ◌≢◌, ◌⊎◌, ⊎_elim, inl, inr, ℕ, ◌+◌, ◌-◌, ◌<◌, ◌≤◌, Bool, true, false, cond, ◌&&◌, leb, ltb, List, [], ◌∷◌, length, get_or, Option, Some, None, refl, sym, ap, ◌∙◌, subst, arith}
+use Rattle.std.specs.List.{list_any, range_with_len}
 use Rattle.std.specs.List.Sorted.{IsNonDecreasingBy, IsPartitionedBy, IsPartitionPoint}
 use Rattle.std.proofs.lemmas.Bool.{cases_eq, eq-eqb, ne_eqb, le-leb, lt-ltb, leb-true, leb-false, ltb-true, cases_lt, cases_Bool, and_parts}
 use Rattle.std.proofs.lemmas.List.{get_or_default}
 use Rattle.std.proofs.lemmas.List.Folds.{list_any_at, list_any_none}
 use Rattle.std.proofs.lemmas.List.Sorted.{IsPartitionedBy-leb}
-use Rattle.hfs_blocks.specs.Layers.{Numbered, Changes, changes, AreWithin, with_change}
+use Rattle.hfs_fields.specs.Members.{In}
+use Rattle.hfs_blocks.specs.Layers.{Numbered, changes, over, with_change}
+use Rattle.hfs_volume.proofs.OwnedStay.{in_range}
+use Rattle.hfs_copy.specs.Keeping.{GainsChanged}
+use Rattle.hfs_copy.proofs.KeptBlocks.{gained-first, put-one}
 use Rattle.hfs_put.specs.ForkRuns.{AreRunsApart}
 use Rattle.hfs_put_sources.specs.declared.fork_run.ForkRun.{ForkRun}
-use Rattle.hfs_put.specs.Beside.{is_of_run, is_in_runs, block_beside, AreBeside, PutsBeside, HaveBegun}
+use Rattle.hfs_put.specs.Beside.{is_of_run, is_in_runs, block_beside, AreChangedBeside, PutsBeside, HaveBegun}
 
 -- ---- whether a run has a byte
 
@@ -80,64 +84,150 @@ last-begun runs byte p apart h some d =
     not-below : (a b : ℕ) → b ≤ a → ltb a b ≡ false
     not-below a b le = elim (cases_Bool (ltb a b)) [ inl is ↦ absurd (let lt = ltb-true a b is in omega (arith, lt, le)) | inr not ↦ not ]
 
--- ---- one block more
+-- ---- blocks that differ
 
-module _ (runs : List ForkRun) (patch old : Numbered) (n : ℕ) where
-  none-either : (b : Bool) → ◌≡◌ {A = Option (List ℕ)} (cond b None None) None
-  none-either true = refl
-  none-either false = refl
+-- two blocks are the same, or not
+same-or-other : (a b : List ℕ) → (a ≡ b) ⊎ (a ≢ b)
+same-or-other [] [] = inl refl
+same-or-other [] (y ∷ b) = inr (λ (e : [] ≡ y ∷ b). cc)
+same-or-other (x ∷ a) [] = inr (λ (e : x ∷ a ≡ []). cc)
+same-or-other (x ∷ a) (y ∷ b) = ⊎_elim
+    (λ (first : x ≡ y). ⊎_elim
+    (λ (rest : a ≡ b). inl (λ i. first i ∷ rest i))
+    (λ (other : a ≢ b). inr (λ (e : x ∷ a ≡ y ∷ b). other (tails x y a b e)))
+    (same-or-other a b))
+    (λ (other : x ≡ y → ⊥). inr (λ (e : x ∷ a ≡ y ∷ b). other (heads x y a b e)))
+    (cases_eq x y)
+  where
+    heads : (x y : ℕ) (a b : List ℕ) → x ∷ a ≡ y ∷ b → x ≡ y
+    heads x y a b e = cc
 
-  pub puts-inside : is_in_runs runs n ≡ true → PutsBeside runs patch n old old
-  puts-inside inside = record {
-    here = λ none. none ∙ sym (ap (λ (b : Bool). cond b None (changes patch n)) inside);
-    others = λ k other. refl;
-  }
+    tails : (x y : ℕ) (a b : List ℕ) → x ∷ a ≡ y ∷ b → a ≡ b
+    tails x y a b e = cc
 
-  pub puts-none : changes patch n ≡ None → PutsBeside runs patch n old old
-  puts-none unchanged = record {
-    here = λ none. none ∙ sym (ap (λ (o : Option (List ℕ)). cond (is_in_runs runs n) None o) unchanged ∙ none-either (is_in_runs runs n));
-    others = λ k other. refl;
-  }
+-- the block of this number came first
+changes-first : (n : ℕ) (b : List ℕ) (es : Numbered) → changes ((n, b) ∷ es) ≡ with_change (changes es) n b
+changes-first n b es = λ i m. at m i
+  where
+    at : (m : ℕ) → changes ((n, b) ∷ es) m ≡ with_change (changes es) n b m
+    at m = ⊎_elim
+        (λ (same : m ≡ n). ap (λ (t : Bool). cond t (Some b) (changes es m)) (eq-eqb m n same ∙ sym (eq-eqb n m (sym same))))
+        (λ (other : m ≡ n → ⊥). ap (λ (t : Bool). cond t (Some b) (changes es m)) (ne_eqb m n other ∙ sym (ne_eqb n m (λ e. other (sym e)))))
+        (cases_eq m n)
 
-  pub puts-beside : (new : Numbered) (b : List ℕ) → is_in_runs runs n ≡ false → Some b ≡ changes patch n → changes new ≡ with_change (changes old) n b
-      → PutsBeside runs patch n old new
-  puts-beside new b out is put = record {
-    here = λ none.
-        ap (λ (f : Changes). f n) put ∙ ap (λ (t : Bool). cond t (Some b) (changes old n)) (eq-eqb n n refl) ∙ is
-        ∙ sym (ap (λ (t : Bool). cond t None (changes patch n)) out);
-    others = λ k other. ap (λ (f : Changes). f k) put ∙ ap (λ (t : Bool). cond t (Some b) (changes old k)) (ne_eqb n k (λ e. other (sym e)));
-  }
+none-either : (b : Bool) → ◌≡◌ {A = Option (List ℕ)} (cond b None None) None
+none-either true = refl
+none-either false = refl
+
+none-some : (b : List ℕ) → None ≡ Some b → ⊥
+none-some b e = cc
 
 -- ---- block after block
 
--- of the blocks before one those that begin in no run, and none behind them
-pub record AreBesideBelow (runs : List ForkRun) (patch : Numbered) (k : ℕ) (kept : Numbered) : Type 0 where
-  pub below : (n : ℕ) → n < k → changes kept n ≡ block_beside runs patch n
+-- of the blocks before one those that differ, and of these those that begin in no run; none behind them
+pub record AreBesideBelow (runs : List ForkRun) (changed : Numbered) (below : ℕ → List ℕ) (k : ℕ) (kept : Numbered) : Type 0 where
+  pub differing : Numbered
+  pub all : GainsChanged changed below (range_with_len 0 k) [] differing
+  pub before : (n : ℕ) → n < k → changes kept n ≡ block_beside runs differing n
   pub behind : (n : ℕ) → k ≤ n → changes kept n ≡ None
 
-pub beside-first : (runs : List ForkRun) (patch kept : Numbered) → kept ≡ [] → AreBesideBelow runs patch 0 kept
-beside-first runs patch kept e = record { below = λ n lt. absurd (omega (arith, lt)); behind = λ n le. ap (λ (es : Numbered). changes es n) e }
+module _ (runs : List ForkRun) (changed : Numbered) (below : ℕ → List ℕ) where
+  abbrev new : ℕ → List ℕ
+  new = over (changes changed) below
 
-pub beside-next : (runs : List ForkRun) (patch : Numbered) (k : ℕ) (old new : Numbered) → AreBesideBelow runs patch k old → PutsBeside runs patch k old new
-    → AreBesideBelow runs patch (k + 1) new
-beside-next runs patch k old new h puts = record {
-  below = λ n lt. ⊎_elim
-      (λ (same : n ≡ k). subst (λ (m : ℕ). changes new m ≡ block_beside runs patch m) (sym same) (puts.here (h.behind k (omega arith))))
-      (λ (other : n ≡ k → ⊥). puts.others n other ∙ h.below n (omega (arith, lt, other)))
-      (cases_eq n k);
-  behind = λ n le. puts.others n (λ e. absurd (omega (arith, le, e))) ∙ h.behind n (omega (arith, le));
-}
+  abbrev Goes : ℕ → Type 0
+  Goes n = new n ≢ below n
 
-pub beside-all : (runs : List ForkRun) (patch kept : Numbered) (count k : ℕ) → AreWithin (changes patch) count → count ≤ k → AreBesideBelow runs patch k kept
-    → AreBeside runs patch kept
-beside-all runs patch kept count k within all h n = ⊎_elim
-    (λ (lt : n < k). h.below n lt)
-    (λ (above : k ≤ n).
-    let le : count ≤ n = omega (arith, all, above) in
-    h.behind n above
-    ∙ sym (ap (λ (o : Option (List ℕ)). cond (is_in_runs runs n) None o) (by (changes patch n) refl le) ∙ none-either runs patch [] n (is_in_runs runs n)))
-    (cases_lt n k)
-  where
-    by : (o : Option (List ℕ)) → changes patch n ≡ o → count ≤ n → changes patch n ≡ None
-    by None e le = e
-    by (Some b) e le = let lt : n < count = (within n b e).0 in absurd (omega (arith, lt, le))
+  abbrev Stays : ℕ → Type 0
+  Stays n = new n ≡ below n
+
+  -- a block that wasn't looked at isn't there
+  unseen : (k : ℕ) (differing : Numbered) → GainsChanged changed below (range_with_len 0 k) [] differing → (n : ℕ) → k ≤ n → changes differing n ≡ None
+  unseen k differing all n le = ⊎_elim
+      (λ (same : changes differing n ≡ changes [] n). same)
+      (λ (came : In n (range_with_len 0 k) × Goes n × (changes differing n ≡ Some (new n))). absurd (let low = (in_range 0 k n came.0).1 in omega (arith, low, le)))
+      (all.only n)
+
+  pub beside-first : (kept : Numbered) → kept ≡ [] → AreBesideBelow runs changed below 0 kept
+  beside-first kept e = record {
+    differing = [];
+    all = record { all = tt; only = λ n. inl refl };
+    before = λ n lt. absurd (omega (arith, lt));
+    behind = λ n le. ap (λ (es : Numbered). changes es n) e;
+  }
+
+  module _ (k : ℕ) (old kept : Numbered) (h : AreBesideBelow runs changed below k old) where
+    none-there : changes old k ≡ None
+    none-there = h.behind k (omega arith)
+
+    -- with what differs at the next block, and what is kept of it
+    next-with : (differing : Numbered) → GainsChanged changed below (k ∷ []) h.differing differing → ((n : ℕ) → n ≢ k → changes differing n ≡ changes h.differing n)
+        → ((n : ℕ) → n ≢ k → changes kept n ≡ changes old n) → changes kept k ≡ block_beside runs differing k → AreBesideBelow runs changed below (k + 1) kept
+    next-with differing gains same others here = record {
+      differing = differing;
+      all = gained-first new Goes Stays k [] h.differing differing h.all gains;
+      before = λ n lt. ⊎_elim
+          (λ (is : n ≡ k). subst (λ (m : ℕ). changes kept m ≡ block_beside runs differing m) (sym is) here)
+          (λ (other : n ≡ k → ⊥).
+          others n other ∙ h.before n (omega (arith, lt, other)) ∙ ap (λ (o : Option (List ℕ)). cond (is_in_runs runs n) None o) (sym (same n other)))
+          (cases_eq n k);
+      behind = λ n le. others n (λ e. omega (arith, le, e)) ∙ h.behind n (omega (arith, le));
+    }
+
+    -- the next block differs
+    next-other : Goes k → ((n : ℕ) → n ≢ k → changes kept n ≡ changes old n) → changes kept k ≡ cond (is_in_runs runs k) None (Some (new k))
+        → AreBesideBelow runs changed below (k + 1) kept
+    next-other goes others here = next-with ((k, new k) ∷ h.differing)
+        (put-one new Goes Stays k (new k) h.differing ((k, new k) ∷ h.differing) goes refl (changes-first k (new k) h.differing))
+        (λ n other. ap (λ (t : Bool). cond t (Some (new k)) (changes h.differing n)) (ne_eqb n k other)) others
+        (here ∙ ap (λ (t : Bool). cond (is_in_runs runs k) None (cond t (Some (new k)) (changes h.differing k))) (sym (eq-eqb k k refl)))
+
+    -- the next block is the same
+    next-same : Stays k → ((n : ℕ) → n ≢ k → changes kept n ≡ changes old n) → changes kept k ≡ None → AreBesideBelow runs changed below (k + 1) kept
+    next-same stays others none = next-with h.differing (record { all = (inr stays, tt); only = λ n. inl refl }) (λ n other. refl) others
+        (none ∙ sym (none-either (is_in_runs runs k)) ∙ ap (λ (o : Option (List ℕ)). cond (is_in_runs runs k) None o) (sym (unseen k h.differing h.all k (omega arith))))
+
+    next-inside : is_in_runs runs k ≡ true → kept ≡ old → AreBesideBelow runs changed below (k + 1) kept
+    next-inside inside is = ⊎_elim
+        (λ (stays : Stays k). next-same stays others none)
+        (λ (goes : Goes k). next-other goes others (none ∙ sym (ap (λ (t : Bool). cond t None (Some (new k))) inside)))
+        (same-or-other (new k) (below k))
+      where
+        others : (n : ℕ) → n ≢ k → changes kept n ≡ changes old n
+        others n other = ap (λ (es : Numbered). changes es n) is
+
+        none : changes kept k ≡ None
+        none = ap (λ (es : Numbered). changes es k) is ∙ none-there
+
+    next-outside : is_in_runs runs k ≡ false → GainsChanged changed below (k ∷ []) old kept → AreBesideBelow runs changed below (k + 1) kept
+    next-outside outside gains = ⊎_elim
+        (λ (same : changes kept k ≡ changes old k). ⊎_elim
+        (λ (came : changes kept k ≡ Some (new k)). absurd (none-some (new k) (sym (same ∙ none-there) ∙ came)))
+        (λ (stays : Stays k). next-same stays others (same ∙ none-there))
+        gains.all.0)
+        (λ (came : In k (k ∷ []) × Goes k × (changes kept k ≡ Some (new k))).
+        next-other came.1 others (came.2 ∙ sym (ap (λ (t : Bool). cond t None (Some (new k))) outside)))
+        (gains.only k)
+      where
+        others : (n : ℕ) → n ≢ k → changes kept n ≡ changes old n
+        others n other = ⊎_elim
+            (λ (same : changes kept n ≡ changes old n). same)
+            (λ (came : In n (k ∷ []) × Goes n × (changes kept n ≡ Some (new n))). ⊎_elim (λ (is : k ≡ n). absurd (other (sym is))) (λ none. absurd none) came.0)
+            (gains.only n)
+
+    pub beside-next : PutsBeside runs changed below k old kept → AreBesideBelow runs changed below (k + 1) kept
+    beside-next puts = ⊎_elim
+        (λ (inside : is_in_runs runs k ≡ true). next-inside inside (puts.inside inside))
+        (λ (outside : is_in_runs runs k ≡ false). next-outside outside (puts.outside outside))
+        (cases_Bool (is_in_runs runs k))
+
+  pub beside-all : (count k : ℕ) (kept : Numbered) → k ≡ count → AreBesideBelow runs changed below k kept → AreChangedBeside runs changed below count kept
+  beside-all count k kept is h = record {
+    differing = h.differing;
+    all = subst (λ (c : ℕ). GainsChanged changed below (range_with_len 0 c) [] h.differing) is h.all;
+    beside = λ n. ⊎_elim
+        (λ (lt : n < k). h.before n lt)
+        (λ (le : k ≤ n).
+        h.behind n le ∙ sym (none-either (is_in_runs runs n)) ∙ ap (λ (o : Option (List ℕ)). cond (is_in_runs runs n) None o) (sym (unseen k h.differing h.all n le)))
+        (cases_lt n k);
+  }

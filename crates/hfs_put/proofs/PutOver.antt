@@ -1,9 +1,9 @@
 -- What goes out of a list that was put on a copy.
-use Rattle.std.proofs.Common.{◌≡◌, ℕ, ◌/◌, ◌<◌, List, [], ◌∷◌, length, map, Bool, true, false, cond, Option, Some, None, IsSome, is_some, unwrap_or, refl, sym, ap, subst, ◌∙◌}
+use Rattle.std.proofs.Common.{◌≡◌, inl, ℕ, ◌/◌, ◌<◌, List, [], ◌∷◌, length, map, Bool, true, false, cond, Option, Some, None, IsSome, is_some, unwrap_or, refl, sym, ap, subst, ◌∙◌}
 use Rattle.hfs_fields.specs.Each.{Each}
 use Rattle.hfs_fields.proofs.ElementLemmas.{each-mono}
 use Rattle.hfs_blocks.specs.Blocks.{block_at, block_count, length-block_at}
-use Rattle.hfs_blocks.specs.Layers.{Numbered, changes, AreWithin}
+use Rattle.hfs_blocks.specs.Layers.{Numbered, changes, over, AreWhole, AreWithin}
 use Rattle.hfs_check.specs.Agree.{AgreesBut}
 use Rattle.hfs_check.specs.Parts.{mdb_in}
 use Rattle.hfs_check.specs.VolumeOf.{volume_of}
@@ -11,7 +11,8 @@ use Rattle.hfs_volume.specs.Image.{ImageValue, patched}
 use Rattle.hfs_volume.proofs.Laid.{block_at-laid_over}
 use Rattle.hfs_copy.specs.Working.{IsWorkingCopy}
 use Rattle.hfs_copy.specs.GivenBack.{AreChangedZeros, AreKeptOf}
-use Rattle.hfs_copy.specs.Keeping.{AreKept}
+use Rattle.hfs_copy.specs.Keeping.{AreKept, GainsZeros}
+use Rattle.hfs_copy.proofs.KeptBlocks.{kept-are, kept-makes}
 use Rattle.hfs_put.specs.ForkRuns.{AreForkRuns}
 use Rattle.hfs_put.specs.Laying.{item_of, AreLaid}
 use Rattle.hfs_put_plan.specs.declared.items.PutItem.{PutItem}
@@ -23,13 +24,32 @@ use Rattle.hfs_put.specs.Forks.{AreForksLaid}
 use Rattle.hfs_put.specs.Saved.{IsDifference, IsPut}
 use Rattle.hfs_put.proofs.CameForks.{are-long}
 use Rattle.hfs_put.proofs.SavedPuts.{directory-is, saved_is_put}
-use Rattle.hfs_put.specs.Beside.{is_in_runs, AreBeside}
+use Rattle.hfs_put.specs.Beside.{is_in_runs, AreBeside, AreChangedBeside}
 use Rattle.hfs_put.specs.LaidRuns.{laid}
-use Rattle.hfs_put.specs.PutImages.{AreOut, HasDirectory, IsChanged, IsPutOver}
+use Rattle.hfs_put.specs.PutImages.{AreGoingOut, AreOut, HasDirectory, IsChanged, IsPutOver}
 use Rattle.hfs_put.proofs.SavedRuns.{saved-laid}
 use Rattle.hfs_put.proofs.WrittenBlocks.{agrees-where, changed-each, changed_of}
 
 -- ---- the blocks that go out
+
+-- the changed blocks that differ are all in which a volume differs
+pub going-out : (volume : ImageValue) (changed : Numbered) (runs : List ForkRun) (patch : Numbered) → AgreesBut volume.written volume.base volume.current
+    → volume.current ≡ patched changed volume.base → AreWhole (changes changed)
+    → AreChangedBeside runs changed (block_at volume.base) (block_count volume.base) patch → AreGoingOut volume runs patch
+going-out volume changed runs patch agrees is whole beside =
+    let differing = beside.differing in
+    let none : GainsZeros (over (changes changed) (block_at volume.base)) [] differing differing = record { all = tt; only = λ n. inl refl } in
+    record {
+      agrees = agrees;
+      changed = differing;
+      are = record {
+        zeros = [];
+        are = record { each = tt; all = tt };
+        kept = kept-are changed volume.base volume.current [] differing differing is whole tt beside.all none;
+      };
+      makes = kept-makes changed volume.base volume.current [] differing differing is whole tt beside.all none;
+      beside = beside.beside;
+    }
 
 not-none : (block : List ℕ) → None ≡ Some block → ⊥
 not-none block e = cc

@@ -1,7 +1,8 @@
 -- The blocks of a patch that lie outside the runs of forks.
-use Rattle.std.specs.Prelude.{◌≡◌, ◌≢◌, ℕ, ◌+◌, ◌*◌, ◌<◌, ◌≤◌, Bool, ◌&&◌, nat_le, nat_lt, if◌then◌else◌, List, length, slice_index_or, Option, None}
-use Rattle.std.specs.List.{list_any}
+use Rattle.std.specs.Prelude.{◌≡◌, ℕ, ◌+◌, ◌*◌, ◌<◌, ◌≤◌, Bool, true, false, ◌&&◌, nat_le, nat_lt, if◌then◌else◌, List, [], ◌∷◌, length, slice_index_or, Option, None}
+use Rattle.std.specs.List.{list_any, range_with_len}
 use Rattle.hfs_blocks.specs.Layers.{Numbered, changes}
+use Rattle.hfs_copy.specs.Keeping.{GainsChanged}
 use Rattle.hfs_put_sources.specs.declared.fork_run.ForkRun.{ForkRun}
 
 -- the byte is one of the run's
@@ -22,10 +23,16 @@ AreBeside runs patch kept = (n : ℕ) → changes kept n ≡ block_beside runs p
 
 -- ---- on the way
 
--- block n was added, if it is one of these and wasn't there, and no other
-pub record PutsBeside (runs : List ForkRun) (patch : Numbered) (n : ℕ) (old new : Numbered) : Type 0 where
-  pub here : changes old n ≡ None → changes new n ≡ block_beside runs patch n
-  pub others : (k : ℕ) → k ≢ n → changes new k ≡ changes old k
+-- block n was added, if it is changed and other than the one below, unless it begins in one of the runs; no other was
+pub record PutsBeside (runs : List ForkRun) (changed : Numbered) (below : ℕ → List ℕ) (n : ℕ) (old new : Numbered) : Type 0 where
+  pub inside : is_in_runs runs n ≡ true → new ≡ old
+  pub outside : is_in_runs runs n ≡ false → GainsChanged changed below (n ∷ []) old new
+
+-- of so many blocks, these are those that are changed and other than the ones below, except those that begin in one of the runs
+pub record AreChangedBeside (runs : List ForkRun) (changed : Numbered) (below : ℕ → List ℕ) (count : ℕ) (kept : Numbered) : Type 0 where
+  pub differing : Numbered
+  pub all : GainsChanged changed below (range_with_len 0 count) [] differing
+  pub beside : AreBeside runs differing kept
 
 -- so many runs begin at this byte or before it, and no others
 pub record HaveBegun (runs : List ForkRun) (byte count : ℕ) : Type 0 where

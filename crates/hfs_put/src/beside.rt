@@ -1,11 +1,12 @@
-//! The blocks of a patch that lie outside the runs of forks.
+//! The changed blocks that lie outside the runs of forks.
 ghost use Rattle.std.specs.Prelude.{◌≡◌, ◌<◌, IfOk, OnOk};
-ghost use Rattle.hfs_blocks.specs.Layers.{changes, AreWithin};
 ghost use Rattle.hfs_put.specs.ForkRuns.{AreRunsApart};
-ghost use Rattle.hfs_put.specs.Beside.{AreBeside, HaveBegun, PutsBeside, is_in_runs};
+ghost use Rattle.hfs_put.specs.Beside.{AreChangedBeside, HaveBegun, PutsBeside, is_in_runs};
 
+use hfs_blocks::Blocks;
+use hfs_copy::keep_changed;
 use hfs_put_sources::ForkRun;
-use hfs_space::ChangedBlocks;
+use hfs_space::{ChangedBlocks, ChangedOver};
 use std::alloc::{AllocError, Global};
 
 /// How many of the runs begin at or before this byte. A binary search.
@@ -30,41 +31,38 @@ fn is_in_runs(runs: &[ForkRun], n: u32) -> bool
     byte - run.place < run.len
 }
 
-/// Keeps block `n` of a patch, if it has one, unless the block begins in one of the runs.
-fn keep_block(
+/// Keeps block `n`, if it is changed and differs from the one below, unless it begins in one of the runs.
+fn keep_block<B: Blocks>(
     kept: &mut ChangedBlocks,
-    patch: &ChangedBlocks,
+    now: &ChangedOver<'_, B>,
     runs: &[ForkRun],
     n: u32,
 ) -> Result<(), AllocError>
-    requires few { n < 4294967295 }
+    requires below { n < B.total now.now.below.now }
     requires apart { AreRunsApart runs.now }
-    ensures { OnOk result (PutsBeside runs.now patch.now n kept.old kept.new) }
+    ensures { OnOk result (PutsBeside runs.now now.now.changed.now (B.blocks now.now.below.now) n
+        kept.old kept.new) }
 {
     if is_in_runs(runs, n) {
         return Ok(());
     }
-    match patch.get(n) {
-        Some(block) => kept.put(n, block),
-        None => Ok(()),
-    }
+    keep_changed(kept, now, n)
 }
 
-/// The blocks of a patch of a volume of `count` blocks, except those that begin in one of the runs. Fails only when out of
-/// memory.
-pub(crate) fn beside_runs(
+/// The changed blocks that differ from those below, except those that begin in one of the runs, which aren't looked at. Fails only
+/// when out of memory.
+pub(crate) fn changed_beside<B: Blocks>(
     alloc: Global,
-    patch: &ChangedBlocks,
+    now: &ChangedOver<'_, B>,
     runs: &[ForkRun],
-    count: u32,
 ) -> Result<ChangedBlocks, AllocError>
-    requires within { AreWithin (changes patch.now) count }
     requires apart { AreRunsApart runs.now }
-    ensures { IfOk result (AreBeside runs.now patch.now) }
+    ensures { IfOk result (AreChangedBeside runs.now now.now.changed.now
+        (B.blocks now.now.below.now) (B.total now.now.below.now)) }
 {
     let mut kept = ChangedBlocks::new(alloc);
-    for n in 0..count {
-        keep_block(&mut kept, patch, runs, n)?;
+    for n in 0..now.count() {
+        keep_block(&mut kept, now, runs, n)?;
     }
     Ok(kept)
 }

@@ -8,10 +8,8 @@ ghost use Rattle.hfs_put.specs.ForkRuns.{AreRunsApart};
 ghost use Rattle.hfs_put.specs.Laying.{IsFaultOfLaying};
 ghost use Rattle.hfs_put.specs.PutImages.{AreGoingOut, HasDirectory, IsPutOver};
 
-use crate::beside::beside_runs;
+use crate::beside::changed_beside;
 use crate::{LayFault, fork_runs, lay_items};
-use hfs_blocks::Blocks;
-use hfs_copy::kept_blocks;
 use hfs_put_plan::PutItem;
 use hfs_put_sources::ForkRun;
 use hfs_space::ChangedBlocks;
@@ -36,8 +34,9 @@ fn going_out(alloc: Global, volume: &Volume, runs: &[ForkRun]) -> Result<Changed
     ensures { IfOk result (AreGoingOut volume.now runs.now) }
 {
     let base = volume.base()?;
-    let changed = kept_blocks(alloc, volume, &[], &[])?;
-    beside_runs(alloc, &changed, runs, base.blocks().count())
+    let below = base.blocks();
+    let now = volume.changes().over(&below);
+    changed_beside(alloc, &now, runs)
 }
 
 /// Puts a list of items into folder `target` of a volume that was mounted over a copy of an image, at the moment `now`, with all
