@@ -1,7 +1,9 @@
 pub mod Beginnings
 pub mod FolderLemmas
+mod NameLemmas
 pub mod RemovalLemmas
 pub mod PlacingLemmas
+pub mod ShelfPlaceLemmas
 mod StoredLemmas
 pub mod Moves
 pub mod FileLemmas

@@ -1,45 +1,95 @@
 -- A folder that is made, placed or taken away.
-use Rattle.std.proofs.Common.{◌≡◌, ℕ, ◌<◌, ◌*◌, ◌/◌, List, [], ◌∷◌, Option, Some, None, Result, Ok, Err, refl, sym, ap, ◌∙◌, subst, inl, inr, arith, add-zero}
-use Rattle.std.specs.Prelude.{⊤}
+use Rattle.std.proofs.Common.{◌≡◌, ℕ, suc, ◌+◌, ◌<◌, ◌≤◌, ◌*◌, ◌/◌, List, [], ◌∷◌, Option, Some, None, Result, Ok, Err, refl, sym, ap, ◌∙◌, subst, inl, inr, arith, add-zero}
+use Rattle.std.specs.Prelude.{⊤, string_bytes}
 use Rattle.std.proofs.lemmas.Nat.{div-mul-add}
 use Rattle.hfs_bag.specs.Entries.{ShelfEntry, with_time}
 use Rattle.hfs_bag.specs.ShelfPaths.{IsNewFolder, new_folder_path}
+use Rattle.hfs_bag.specs.ShelfPlaces.{others_in}
 use Rattle.hfs_bag.specs.Told.{Tells, TellsNewFolder}
 use Rattle.hfs_bag.specs.MadeFolders.{given_by, made_in, seconds_in}
-use Rattle.hfs_bag.specs.SystemSteps.{Asked, SystemStep, done, failed, made_folder, moved, timed, closed}
-use Rattle.hfs_bag.specs.Removals.{HasFailed, HasNewFolder, HasNext, HasNoNewFolder, HasSince, IsClosed, IsPlaced, IsTakenAway, RemovesIn}
+use Rattle.hfs_bag.specs.SystemSteps.{Asked, SystemStep, done, failed, Does, made_folder, moved, timed, closed, listed, removed_folder}
+use Rattle.hfs_bag.specs.Removals.{HasNewFolder, HasNext, HasNoNewFolder, HasOpenedFolder, HasRefused, HasSince, IsClosed, IsPlaced, IsTakenAway, IsUnwritable, RemovesIn, TellsRefused, with_refused}
 use Rattle.hfs_bag.specs.Left.{IsLeft, IsOrNoMemory}
 use Rattle.hfs_bag.specs.declared.shelf_fault.ShelfFault.{ShelfFault}
 use Rattle.hfs_bag.specs.declared.shelf_fault.ShelfFault.TheVariants as fault
 use Rattle.hfs_bag.proofs.FolderLemmas.{made_in-itself}
-use Rattle.hfs_bag.proofs.RemovalLemmas.{since_none, since_then, since_trans, taken_behind, taken_since}
+use Rattle.hfs_bag.proofs.RemovalLemmas.{ended, since_none, since_then, since_trans, taken_behind, taken_since}
 
 -- ---- making it
 
--- one name more is taken
-pub failed_more : (old mid new : List SystemStep) (asked : Asked) → HasSince HasFailed old mid → new ≡ failed asked ∷ mid → HasSince HasFailed old new
-failed_more old mid new asked h is = since_then HasFailed old mid new (failed asked) h is (asked, refl)
+next_number : (number : ℕ) → suc number ≡ number + 1
+next_number number = omega arith
 
-pub name_free : (path folder name : List ℕ) (number : ℕ) (old tried new : List SystemStep) → number < 100 → folder ≡ new_folder_path path number → name ≡ folder → HasSince HasFailed old tried
+-- one name more is refused
+pub refused_more : (path name : List ℕ) (number : ℕ) (old mid new : List SystemStep) → mid ≡ with_refused path number old → name ≡ new_folder_path path number → new ≡ failed (made_folder name) ∷ mid
+    → new ≡ with_refused path (number + 1) old
+refused_more path name number old mid new before at is =
+    is ∙ ap (λ (p : List ℕ). failed (made_folder p) ∷ mid) at ∙ ap (λ (steps : List SystemStep). failed (made_folder (new_folder_path path number)) ∷ steps) before
+    ∙ ap (λ (k : ℕ). with_refused path k old) (next_number number)
+
+pub name_free : (path folder name : List ℕ) (number : ℕ) (old tried new : List SystemStep) → number < 100 → folder ≡ new_folder_path path number → name ≡ folder → tried ≡ with_refused path number old
     → new ≡ done (made_folder name) ∷ tried → HasNewFolder path folder old new
-name_free path folder name number old tried new below at same h is = record {
-  beside = (number, below, at);
-  tried = tried;
-  refused = h;
-  made = is ∙ ap (λ (p : List ℕ). done (made_folder p) ∷ tried) same;
+name_free path folder name number old tried new below at same before is = record {
+  number = number;
+  below = below;
+  name = at;
+  made = is ∙ ap (λ (p : List ℕ). done (made_folder p) ∷ tried) same ∙ ap (λ (steps : List SystemStep). done (made_folder folder) ∷ steps) before;
 }
 
+-- it ends at a name that the system refuses for another reason, where memory is refused, or behind the last name
+pub refused_last : (path name : List ℕ) (number : ℕ) (why : ShelfFault) (old mid new : List SystemStep) → number < 100 → mid ≡ with_refused path number old → name ≡ new_folder_path path number
+    → new ≡ failed (made_folder name) ∷ mid → IsUnwritable name why → HasRefused path why old new
+refused_last path name number why old mid new below before at is tells = record {
+  tried = number + 1;
+  most = omega (arith, below);
+  told = last_told why tells;
+  steps = refused_more path name number old mid new before at is;
+}
+  where
+    last_told : (why : ShelfFault) → IsUnwritable name why → TellsRefused path (number + 1) why
+    last_told (fault.CannotWrite told) same = inr (number, refl, same ∙ at)
+    last_told fault.NoMemory never = absurd never
+
+pub refused_memory : (path : List ℕ) (number : ℕ) (old new : List SystemStep) → number ≤ 100 → new ≡ with_refused path number old → HasRefused path fault.NoMemory old new
+refused_memory path number old new most is = record { tried = number; most = most; told = tt; steps = is }
+
+pub all_refused : (path : List ℕ) (why : ShelfFault) (old new : List SystemStep) → new ≡ with_refused path 100 old → Tells path why → HasRefused path why old new
+all_refused path why old new is tells = record { tried = 100; most = omega arith; told = all_told why tells; steps = is }
+  where
+    all_told : (why : ShelfFault) → Tells path why → TellsRefused path 100 why
+    all_told (fault.CannotWrite told) same = inl (refl, same)
+    all_told fault.NoMemory any = tt
+
+-- ---- opening it
+
+pub opened_now : (path folder name : List ℕ) (old mid new : List SystemStep) → HasNewFolder path folder old mid → name ≡ folder → new ≡ done (listed name) ∷ mid → HasOpenedFolder path folder old new
+opened_now path folder name old mid new h same is = record { between = mid; is_new = h; opens = is ∙ ap (λ (p : List ℕ). done (listed p) ∷ mid) same }
+
 pub new_beside : (path folder : List ℕ) (old new : List SystemStep) → HasNewFolder path folder old new → IsNewFolder path folder
-new_beside path folder old new h = h.beside
+new_beside path folder old new h = (h.number, h.below, h.name)
 
-pub new_empty : (path folder : List ℕ) (old new : List SystemStep) → HasNewFolder path folder old new → made_in folder new ≡ []
-new_empty path folder old new h = ap (made_in folder) h.made ∙ made_in-itself folder h.tried
+pub opened_empty : (path folder : List ℕ) (old new : List SystemStep) → HasOpenedFolder path folder old new → made_in folder new ≡ []
+opened_empty path folder old new h =
+    ap (made_in folder) h.opens ∙ ap (made_in folder) h.is_new.made ∙ made_in-itself folder (with_refused path h.is_new.number old)
 
-pub none_new : (path : List ℕ) (old new : List SystemStep) → HasSince HasFailed old new → HasNoNewFolder path old new
-none_new path old new h = inl h
+pub none_new : (path : List ℕ) (why : ShelfFault) (old new : List SystemStep) → HasRefused path why old new → HasNoNewFolder path why old new
+none_new path why old new h = inl h
 
-pub unmade : (path folder : List ℕ) (old made new : List SystemStep) → HasNewFolder path folder old made → IsTakenAway folder made new → HasNoNewFolder path old new
-unmade path folder old made new h away = inr (folder, made, h, away)
+pub unopened : {T E : Type 0} (path folder opened name : List ℕ) (why : ShelfFault) (came : Result T E) (old made mid new : List SystemStep) → HasNewFolder path folder old made → opened ≡ folder
+    → mid ≡ failed (listed opened) ∷ made → name ≡ folder → Does came (removed_folder name) mid new → IsUnwritable folder why → HasNoNewFolder path why old new
+unopened path folder opened name why came old made mid new h same at again is tells = inr (record {
+  folder = folder;
+  between = made;
+  is_new = h;
+  told = tells;
+  away = subst (λ (steps : List SystemStep). IsTakenAway folder steps new) listed-is (ended folder made mid new came listed-is removed-is);
+})
+  where
+    listed-is : mid ≡ failed (listed folder) ∷ made
+    listed-is = at ∙ ap (λ (p : List ℕ). failed (listed p) ∷ made) same
+
+    removed-is : Does came (removed_folder folder) mid new
+    removed-is = subst (λ (p : List ℕ). Does came (removed_folder p) mid new) again is
 
 -- ---- letting go of its last file
 
@@ -58,6 +108,15 @@ closed_given folder None old new is = ap (made_in folder) is
 closed_given folder (Some seconds) old new (inl is) = ap (made_in folder) is ∙ ap (with_time (made_in folder old)) (same_seconds seconds)
 closed_given folder (Some seconds) old new (inr is) = ap (made_in folder) is ∙ ap (with_time (made_in folder old)) (same_seconds seconds)
 
+closed_others : (folder : List ℕ) (time : Option ℕ) (old new : List SystemStep) → IsClosed time old new → others_in folder new ≡ others_in folder old
+closed_others folder None old new is = ap (others_in folder) is
+closed_others folder (Some seconds) old new (inl is) = ap (others_in folder) is
+closed_others folder (Some seconds) old new (inr is) = ap (others_in folder) is
+
+-- and nothing else was done
+pub closed_others_now : (folder now : List ℕ) (time : Option ℕ) (old new : List SystemStep) → IsClosed time old new → now ≡ folder → others_in now new ≡ others_in folder old
+closed_others_now folder now time old new is same = ap (λ (f : List ℕ). others_in f new) same ∙ closed_others folder time old new is
+
 pub closed_same : (folder : List ℕ) (time now : Option ℕ) (old new : List SystemStep) → IsClosed time old new → now ≡ None → given_by folder now new ≡ given_by folder time old
 closed_same folder time None old new is none = closed_given folder time old new is
 closed_same folder time (Some seconds) old new is none = cc
@@ -67,8 +126,10 @@ next_now asked time old mid new closes is = record { between = mid; closes = clo
 
 -- ---- placing it
 
-pub placed_now : (path folder : List ℕ) (time : Option ℕ) (old mid new : List SystemStep) → IsClosed time old mid → new ≡ done (moved folder path) ∷ mid → IsPlaced path folder (given_by folder time old) new
-placed_now path folder time old mid new closes is = record { made = mid; entries_are = closed_given folder time old mid closes; placed = is }
+pub placed_now : (path folder : List ℕ) (time : Option ℕ) (old mid new : List SystemStep) → IsClosed time old mid → new ≡ done (moved folder path) ∷ mid
+    → IsPlaced path folder (given_by folder time old) (others_in folder old) new
+placed_now path folder time old mid new closes is =
+    record { made = mid; entries_are = closed_given folder time old mid closes; others_are = closed_others folder time old mid closes; placed = is }
 
 pub failed_in : (folder : List ℕ) (old mid new : List SystemStep) (asked : Asked) → HasSince (RemovesIn folder) old mid → new ≡ failed asked ∷ mid → HasSince (RemovesIn folder) old new
 failed_in folder old mid new asked h is = since_then (RemovesIn folder) old mid new (failed asked) h is tt
@@ -85,4 +146,4 @@ pub told_still : (path : List ℕ) (was is : ShelfFault) → Tells path was → 
 told_still path was is tells (inl same) = subst (Tells path) (sym same) tells
 told_still path was is tells (inr same) = subst (Tells path) (sym same) tt
 
-pub ruleset placing = (failed_more, name_free, new_beside, new_empty, none_new, unmade, since_closed, closed_same, next_now, placed_now, failed_in, left_behind, left_taken, told_still)
+pub ruleset placing = (refused_more, name_free, refused_last, refused_memory, all_refused, opened_now, new_beside, opened_empty, none_new, unopened, since_closed, closed_same, closed_others_now, next_now, placed_now, failed_in, left_behind, left_taken, told_still)

@@ -1,13 +1,14 @@
 -- Steps that only remove in a folder.
 use Rattle.std.proofs.Common.{◌≡◌, ℕ, List, [], ◌∷◌, ◌++◌, Option, Some, None, Result, Ok, Err, ◌⊎◌, refl, sym, ap, ◌∙◌, subst, append_assoc, inl, inr, length, arith, eqb-true}
-use Rattle.std.specs.Prelude.{⊤, codes, IfOk, ◌==◌, MatchResult, is_some, false, true}
+use Rattle.std.specs.Prelude.{⊤, Bool, codes, IfOk, ◌==◌, MatchResult, is_some, false, true, if◌then◌else◌}
 use Rattle.hfs_bag.specs.ShelfPaths.{path_within}
 use Rattle.hfs_bag.specs.Told.{IsFolderOrIn}
-use Rattle.hfs_bag.specs.SystemSteps.{Asked, SystemStep, Does, done, failed, made_folder, opened, wrote, timed, closed, moved, removed_file, found_folder, removed_folder, looked}
-use Rattle.hfs_bag.specs.Removals.{AreSteps, EndsRemoval, FailsIn, HasFailed, HasLast, HasSince, IsClosed, IsTakenAway, RemovesIn}
+use Rattle.hfs_bag.specs.SystemSteps.{Asked, SystemStep, Does, done, failed, made_folder, opened, wrote, timed, closed, moved, removed_file, found_folder, removed_folder, looked, listed, named}
+use Rattle.hfs_bag.specs.Removals.{AreSteps, EndsRemoval, FailsIn, HasLast, HasSince, IsClosed, IsTakenAway, RemovesIn}
 use Rattle.hfs_bag.specs.FileRemovals.{removal_of}
 use Rattle.hfs_bag.specs.declared.system.Removal.{Removal}
 use Rattle.hfs_bag.specs.declared.system.Removal.TheVariants as found
+use Rattle.hfs_bag.specs.Listings.{HasEmptied, is_entry, listing, names_in, with_removal, with_removals}
 use Rattle.hfs_bag.specs.Tries.{HasNextPlace, HasTried, is_stopped}
 use Rattle.hfs_bag.specs.declared.removal.Tried.{Tried}
 use Rattle.hfs_bag.specs.declared.removal.Tried.TheVariants as tried
@@ -64,12 +65,14 @@ removes_within folder inner is (done (removed_file path)) fact = in_within folde
 removes_within folder inner is (done (found_folder path)) fact = tt
 removes_within folder inner is (done (removed_folder path)) fact = in_within folder inner path is fact
 removes_within folder inner is (done (looked path there)) fact = tt
+removes_within folder inner is (done (listed path)) fact = tt
+removes_within folder inner is (done (named bytes)) fact = tt
 
 pub since_within : (folder inner : List ℕ) (old new : List SystemStep) → IsFolderOrIn folder inner → HasSince (RemovesIn inner) old new → HasSince (RemovesIn folder) old new
 since_within folder inner old new is h = since_into (RemovesIn inner) (RemovesIn folder) old new (removes_within folder inner is) h
 
-fails_within : (folder inner : List ℕ) (step : SystemStep) → IsFolderOrIn folder inner → FailsIn inner step → FailsIn folder step
-fails_within folder inner step is h = (h.0, in_within folder inner h.0 is h.1, h.2)
+fails_within : (folder inner : List ℕ) (before : List SystemStep) (step : SystemStep) → IsFolderOrIn folder inner → FailsIn inner before step → FailsIn folder before step
+fails_within folder inner before step is h = (h.0, in_within folder inner h.0 is h.1, h.2)
 
 -- what failed in what lies in a folder ends its removal
 pub refused_within : (folder inner : List ℕ) (old new : List SystemStep) → IsFolderOrIn folder inner → HasLast (FailsIn inner) inner old new → IsTakenAway folder old new
@@ -78,7 +81,7 @@ refused_within folder inner old new is l = record {
   last = l.last;
   ends = l.ends;
   removes = since_within folder inner old l.before is l.removes;
-  is_last = inr (fails_within folder inner l.last is l.is_last);
+  is_last = inr (fails_within folder inner l.before l.last is l.is_last);
 }
 
 -- ---- one name
@@ -93,12 +96,58 @@ refused_file folder name path old new at is = record {
   last = failed (removed_file path);
   ends = is;
   removes = since_none (RemovesIn folder) old;
-  is_last = (path, inr (name, at), inr refl);
+  is_last = (path, inr (name, at), inl refl);
 }
 
 -- ---- names behind names
 
-pub last_behind : (Last : SystemStep → Type 0) (folder : List ℕ) (old mid new : List SystemStep) → HasSince (RemovesIn folder) old mid → HasLast Last folder mid new → HasLast Last folder old new
+-- what an entry's removal is
+removal_is : (folder name : List ℕ) (steps : List SystemStep) (b : Bool) → is_entry name ≡ b → with_removal folder name steps ≡ (if b then done (removed_file (path_within folder name)) ∷ steps else steps)
+removal_is folder name steps b is = ap (λ (e : Bool). if e then done (removed_file (path_within folder name)) ∷ steps else steps) is
+
+pub entry_removed : (folder name path : List ℕ) (old new : List SystemStep) → is_entry name ≡ true → path ≡ path_within folder name → new ≡ done (removal_of found.Gone path) ∷ old
+    → new ≡ with_removal folder name old
+entry_removed folder name path old new entry at is =
+    is ∙ ap (λ (p : List ℕ). done (removed_file p) ∷ old) at ∙ sym (removal_is folder name old true entry)
+
+pub no_entry_removed : (folder name : List ℕ) (old : List SystemStep) → is_entry name ≡ false → old ≡ with_removal folder name old
+no_entry_removed folder name old none = sym (removal_is folder name old false none)
+
+removal_since : (folder name : List ℕ) (steps : List SystemStep) → HasSince (RemovesIn folder) steps (with_removal folder name steps)
+removal_since folder name steps = by_kind (is_entry name)
+  where
+    by_kind : (b : Bool) → HasSince (RemovesIn folder) steps (if b then done (removed_file (path_within folder name)) ∷ steps else steps)
+    by_kind true = since_then (RemovesIn folder) steps steps _ (done (removed_file (path_within folder name))) (since_none (RemovesIn folder) steps) refl (inr (name, refl))
+    by_kind false = since_none (RemovesIn folder) steps
+
+pub one_since : (folder name : List ℕ) (old new : List SystemStep) → new ≡ with_removal folder name old → HasSince (RemovesIn folder) old new
+one_since folder name old new is = subst (HasSince (RemovesIn folder) old) (sym is) (removal_since folder name old)
+
+pub removals_since : (folder : List ℕ) (names : List (List ℕ)) (steps : List SystemStep) → HasSince (RemovesIn folder) steps (with_removals folder names steps)
+removals_since folder [] steps = since_none (RemovesIn folder) steps
+removals_since folder (name ∷ names) steps =
+    since_trans (RemovesIn folder) steps (with_removal folder name steps) _ (removal_since folder name steps) (removals_since folder names (with_removal folder name steps))
+
+listing_since : (folder : List ℕ) (pieces : List (List ℕ)) (steps : List SystemStep) → HasSince (RemovesIn folder) steps (listing folder pieces steps)
+listing_since folder [] steps = since_then (RemovesIn folder) steps steps _ (done (listed folder)) (since_none (RemovesIn folder) steps) refl tt
+listing_since folder (piece ∷ pieces) steps =
+    since_trans (RemovesIn folder) steps (done (named piece) ∷ listing folder pieces steps) _
+    (since_then (RemovesIn folder) steps (listing folder pieces steps) _ (done (named piece)) (listing_since folder pieces steps) refl tt)
+    (removals_since folder (names_in piece) (done (named piece) ∷ listing folder pieces steps))
+
+pub listed_since : (folder : List ℕ) (pieces : List (List ℕ)) (old new : List SystemStep) → new ≡ listing folder pieces old → HasSince (RemovesIn folder) old new
+listed_since folder pieces old new is = subst (HasSince (RemovesIn folder) old) (sym is) (listing_since folder pieces old)
+
+pub piece_since : (folder piece : List ℕ) (pieces : List (List ℕ)) (old mid new : List SystemStep) → mid ≡ listing folder pieces old → new ≡ done (named piece) ∷ mid → HasSince (RemovesIn folder) old new
+piece_since folder piece pieces old mid new listed-is is = since_then (RemovesIn folder) old mid new (done (named piece)) (listed_since folder pieces old mid listed-is) is tt
+
+-- what was emptied was removed in the folder
+pub emptied_since : (folder : List ℕ) (old new : List SystemStep) → HasEmptied folder old new → HasSince (RemovesIn folder) old new
+emptied_since folder old new (inl is) = since_then (RemovesIn folder) old old new (failed (listed folder)) (since_none (RemovesIn folder) old) is tt
+emptied_since folder old new (inr (pieces, inl is)) = since_then (RemovesIn folder) old (listing folder pieces old) new (done (named [])) (listing_since folder pieces old) is tt
+emptied_since folder old new (inr (pieces, inr is)) = since_then (RemovesIn folder) old (listing folder pieces old) new (failed (named [])) (listing_since folder pieces old) is tt
+
+pub last_behind : (Last : List SystemStep → SystemStep → Type 0) (folder : List ℕ) (old mid new : List SystemStep) → HasSince (RemovesIn folder) old mid → HasLast Last folder mid new → HasLast Last folder old new
 last_behind Last folder old mid new h l = record {
   before = l.before;
   last = l.last;
@@ -107,33 +156,38 @@ last_behind Last folder old mid new h l = record {
   is_last = l.is_last;
 }
 
-pub tried_behind : (folder : List ℕ) (old mid new : List SystemStep) (came : Tried) → HasSince (RemovesIn folder) old mid → HasTried folder mid new came → HasTried folder old new came
-tried_behind folder old mid new (tried.Folder name) h more = since_trans (RemovesIn folder) old mid new h more
-tried_behind folder old mid new tried.Gone h more = since_trans (RemovesIn folder) old mid new h more
-tried_behind folder old mid new tried.Refused h more = last_behind (FailsIn folder) folder old mid new h more
+-- more is tried after what was removed, and what is gone in the end is told anew
+pub tried_behind : (folder : List ℕ) (IsGone IsAll : Type 0) (old mid new : List SystemStep) (came : Tried) → (IsGone → IsAll) → HasSince (RemovesIn folder) old mid → HasTried folder IsGone mid new came
+    → HasTried folder IsAll old new came
+tried_behind folder IsGone IsAll old mid new (tried.Folder name) goes h more = since_trans (RemovesIn folder) old mid new h more
+tried_behind folder IsGone IsAll old mid new tried.Gone goes h more = goes more
+tried_behind folder IsGone IsAll old mid new tried.Refused goes h more = last_behind (FailsIn folder) folder old mid new h more
 
-pub answered_behind : {E : Type 0} (folder : List ℕ) (old mid new : List SystemStep) (came : Result Tried E) → HasSince (RemovesIn folder) old mid
-    → MatchResult came (HasTried folder mid new) (λ _. HasSince (RemovesIn folder) mid new) → MatchResult came (HasTried folder old new) (λ _. HasSince (RemovesIn folder) old new)
-answered_behind folder old mid new (Ok came) h more = tried_behind folder old mid new came h more
-answered_behind folder old mid new (Err e) h more = since_trans (RemovesIn folder) old mid new h more
+-- what was stopped at one name stops all
+pub stopped_behind : {E : Type 0} (folder : List ℕ) (IsGone IsAll : Type 0) (old mid new : List SystemStep) (came : Result Tried E) → is_stopped came ≡ true → HasSince (RemovesIn folder) old mid
+    → MatchResult came (HasTried folder IsGone mid new) (λ _. HasSince (RemovesIn folder) mid new) → MatchResult came (HasTried folder IsAll old new) (λ _. HasSince (RemovesIn folder) old new)
+stopped_behind folder IsGone IsAll old mid new (Ok (tried.Folder name)) e h more = since_trans (RemovesIn folder) old mid new h more
+stopped_behind folder IsGone IsAll old mid new (Ok tried.Gone) e h more = absurd (cc e)
+stopped_behind folder IsGone IsAll old mid new (Ok tried.Refused) e h more = last_behind (FailsIn folder) folder old mid new h more
+stopped_behind folder IsGone IsAll old mid new (Err x) e h more = since_trans (RemovesIn folder) old mid new h more
 
-pub gone_since : {E : Type 0} (folder : List ℕ) (old new : List SystemStep) (came : Result Tried E) → is_stopped came ≡ false → MatchResult came (HasTried folder old new) (λ _. HasSince (RemovesIn folder) old new)
-    → HasSince (RemovesIn folder) old new
-gone_since folder old new (Ok tried.Gone) e h = h
-gone_since folder old new (Ok (tried.Folder name)) e h = absurd (cc e)
-gone_since folder old new (Ok tried.Refused) e h = absurd (cc e)
-gone_since folder old new (Err x) e h = absurd (cc e)
+pub gone_so : {E : Type 0} (folder : List ℕ) (IsGone : Type 0) (old new : List SystemStep) (came : Result Tried E) → is_stopped came ≡ false
+    → MatchResult came (HasTried folder IsGone old new) (λ _. HasSince (RemovesIn folder) old new) → IsGone
+gone_so folder IsGone old new (Ok tried.Gone) e h = h
+gone_so folder IsGone old new (Ok (tried.Folder name)) e h = absurd (cc e)
+gone_so folder IsGone old new (Ok tried.Refused) e h = absurd (cc e)
+gone_so folder IsGone old new (Err x) e h = absurd (cc e)
 
 -- ---- the folder itself
 
 -- what lay at a place is gone, and the removal of that folder failed, or it is gone
-pub refused_folder : (folder place : List ℕ) (old mid new : List SystemStep) → IsFolderOrIn folder place → HasSince (RemovesIn place) old mid → new ≡ failed (removed_folder place) ∷ mid → IsTakenAway folder old new
+pub refused_folder : (folder place : List ℕ) (old mid new : List SystemStep) → IsFolderOrIn folder place → HasEmptied place old mid → new ≡ failed (removed_folder place) ∷ mid → IsTakenAway folder old new
 refused_folder folder place old mid new is h ends = record {
   before = mid;
   last = failed (removed_folder place);
   ends = ends;
-  removes = since_within folder place old mid is h;
-  is_last = inr (place, is, inl refl);
+  removes = since_within folder place old mid is (emptied_since place old mid h);
+  is_last = inr (place, is, inr (refl, (old, h)));
 }
 
 pub removed_itself : (folder place : List ℕ) (old mid new : List SystemStep) → IsFolderOrIn folder place → place ≡ folder → HasSince (RemovesIn place) old mid → new ≡ done (removed_folder place) ∷ mid
@@ -162,24 +216,27 @@ more_places folder old new (Ok (Some place)) some h = h
 more_places folder old new (Ok None) some h = absurd (cc some)
 more_places folder old new (Err e) some h = h
 
--- its removal was asked for at last
-pub ended : {T E : Type 0} (folder : List ℕ) (old mid new : List SystemStep) (came : Result T E) → HasSince (RemovesIn folder) old mid → Does came (removed_folder folder) mid new → IsTakenAway folder old new
-ended folder old mid new (Ok x) h is = record { before = mid; last = done (removed_folder folder); ends = is; removes = h; is_last = inl refl }
-ended folder old mid new (Err e) h is = record { before = mid; last = failed (removed_folder folder); ends = is; removes = h; is_last = inr (folder, inl refl, inl refl) }
+-- the removal of a folder that can't be listed was asked for
+pub ended : {T E : Type 0} (folder : List ℕ) (old mid new : List SystemStep) (came : Result T E) → mid ≡ failed (listed folder) ∷ old → Does came (removed_folder folder) mid new → IsTakenAway folder mid new
+ended folder old mid new (Ok x) at is = record { before = mid; last = done (removed_folder folder); ends = is; removes = since_none (RemovesIn folder) mid; is_last = inl refl }
+ended folder old mid new (Err e) at is = record {
+  before = mid;
+  last = failed (removed_folder folder);
+  ends = is;
+  removes = since_none (RemovesIn folder) mid;
+  is_last = inr (folder, inl refl, inr (refl, (old, inl at)));
+}
 
 pub taken_behind : (folder : List ℕ) (old mid new : List SystemStep) → HasSince (RemovesIn folder) old mid → IsTakenAway folder mid new → IsTakenAway folder old new
 taken_behind folder old mid new h l = last_behind (EndsRemoval folder) folder old mid new h l
 
-removes_last : (folder : List ℕ) (step : SystemStep) → EndsRemoval folder step → RemovesIn folder step
-removes_last folder step (inl same) = subst (RemovesIn folder) (sym same) (inl refl)
-removes_last folder step (inr h) = by_kind h.2
-  where
-    by_kind : (step ≡ failed (removed_folder h.0)) ⊎ (step ≡ failed (removed_file h.0)) → RemovesIn folder step
-    by_kind (inl same) = subst (RemovesIn folder) (sym same) tt
-    by_kind (inr same) = subst (RemovesIn folder) (sym same) tt
+removes_last : (folder : List ℕ) (before : List SystemStep) (step : SystemStep) → EndsRemoval folder before step → RemovesIn folder step
+removes_last folder before step (inl same) = subst (RemovesIn folder) (sym same) (inl refl)
+removes_last folder before step (inr (path, is, inl same)) = subst (RemovesIn folder) (sym same) tt
+removes_last folder before step (inr (path, is, inr (same, emptied))) = subst (RemovesIn folder) (sym same) tt
 
 -- what is taken away was removed in the folder alone
 pub taken_since : (folder : List ℕ) (old new : List SystemStep) → IsTakenAway folder old new → HasSince (RemovesIn folder) old new
-taken_since folder old new l = since_then (RemovesIn folder) old l.before new l.last l.removes l.ends (removes_last folder l.last l.is_last)
+taken_since folder old new l = since_then (RemovesIn folder) old l.before new l.last l.removes l.ends (removes_last folder l.before l.last l.is_last)
 
 pub ruleset removals = (since_none, refused_file, refused_within, ended, taken_behind)

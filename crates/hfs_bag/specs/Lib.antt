@@ -5,6 +5,8 @@ pub mod StoredEntries
 pub mod SystemSteps
 pub mod LoggedSteps
 pub mod MadeFolders
+pub mod Listings
+pub mod ShelfPlaces
 pub mod Removals
 pub mod FileRemovals
 pub mod Tries

@@ -1,9 +1,9 @@
 -- Steps of the program, as a log keeps them.
 use Rattle.std.specs.Prelude.{List, ◌∷◌}
 use Rattle.std.specs.Time.{system_time_nanos}
-use Rattle.hfs_bag.specs.SystemSteps.{Asked, SystemStep, made_folder, opened, wrote, timed, closed, moved, removed_file, found_folder, removed_folder, looked, done, failed, makes_file}
+use Rattle.hfs_bag.specs.SystemSteps.{Asked, SystemStep, made_folder, opened, wrote, timed, closed, moved, removed_file, found_folder, removed_folder, looked, listed, named, done, failed, makes_file}
 use Rattle.hfs_bag.specs.declared.log.Step.{Step}
-use Rattle.hfs_bag.specs.declared.log.Step.TheVariants.{MadeFolder, Opened, Wrote, Timed, Closed, Moved, RemovedFile, RemovedFolder, FoundFolder, Looked}
+use Rattle.hfs_bag.specs.declared.log.Step.TheVariants.{MadeFolder, Opened, Wrote, Timed, Closed, Moved, RemovedFile, RemovedFolder, FoundFolder, Looked, Listed, Named}
 
 -- what a step of the program asks
 abbrev pub asked_by : Step → Asked
@@ -17,6 +17,8 @@ asked_by (RemovedFile path) = removed_file path.now
 asked_by (RemovedFolder path) = removed_folder path.now
 asked_by (FoundFolder path) = found_folder path.now
 asked_by (Looked path there) = looked path.now there
+asked_by (Listed path) = listed path.now
+asked_by (Named bytes) = named bytes.now
 
 -- these steps, and then this one, which was done, or which failed
 abbrev pub with_step : List SystemStep → Step → List SystemStep

@@ -1,7 +1,7 @@
 -- What lies in a folder, by what was asked of the system.
 use Rattle.std.specs.Prelude.{ℕ, ◌/◌, List, [], ◌∷◌, true, false, eqb, if◌then◌else◌, Option, Some, None, option_map, unwrap_or}
 use Rattle.hfs_bag.specs.Entries.{ShelfEntry, with_folder, with_file, with_piece, with_time}
-use Rattle.hfs_bag.specs.SystemSteps.{Asked, SystemStep, made_folder, opened, wrote, timed, closed, moved, removed_file, found_folder, removed_folder, looked, done, failed}
+use Rattle.hfs_bag.specs.SystemSteps.{Asked, SystemStep, made_folder, opened, wrote, timed, closed, moved, removed_file, found_folder, removed_folder, looked, listed, named, done, failed}
 
 -- the code of a slash
 abbrev pub slash : ℕ
@@ -30,6 +30,8 @@ asked_in_vain given (removed_file path) = given
 asked_in_vain given (found_folder path) = given
 asked_in_vain given (removed_folder path) = given
 asked_in_vain given (looked path there) = given
+asked_in_vain given (listed path) = given
+asked_in_vain given (named bytes) = given
 
 -- what was made in a folder, with the times and the bytes of its files, since anything else was made, opened, moved or removed, as the folder itself was
 -- made: then nothing was made in it
@@ -47,6 +49,8 @@ made_in folder (done (removed_file path) ∷ before) = []
 made_in folder (done (found_folder path) ∷ before) = made_in folder before
 made_in folder (done (removed_folder path) ∷ before) = []
 made_in folder (done (looked path there) ∷ before) = made_in folder before
+made_in folder (done (listed path) ∷ before) = made_in folder before
+made_in folder (done (named bytes) ∷ before) = made_in folder before
 
 -- what a shelf was given: what was made in its folder, where the file that was made last gets a time when it is let go of
 abbrev pub given_by : List ℕ → Option ℕ → List SystemStep → List ShelfEntry

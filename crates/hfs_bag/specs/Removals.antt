@@ -1,10 +1,14 @@
 -- What was asked of the system since some steps, where a folder is made, placed and taken away.
-use Rattle.std.specs.Prelude.{◌≡◌, ℕ, ◌*◌, List, [], ◌∷◌, ◌++◌, ◌⊎◌, ⊤, Option, Some, None}
-use Rattle.hfs_bag.specs.SystemSteps.{Asked, SystemStep, made_folder, opened, wrote, timed, closed, moved, removed_file, found_folder, removed_folder, looked, done, failed}
+use Rattle.std.specs.Prelude.{◌≡◌, ℕ, suc, zero, ◌<◌, ◌≤◌, ◌+◌, ◌*◌, List, [], ◌∷◌, ◌++◌, ◌⊎◌, ⊤, Option, Some, None, string_bytes}
+use Rattle.hfs_bag.specs.SystemSteps.{Asked, SystemStep, made_folder, opened, wrote, timed, closed, moved, removed_file, found_folder, removed_folder, looked, listed, named, done, failed}
 use Rattle.hfs_bag.specs.Entries.{ShelfEntry}
+use Rattle.hfs_bag.specs.Listings.{HasEmptied}
 use Rattle.hfs_bag.specs.MadeFolders.{made_in}
-use Rattle.hfs_bag.specs.ShelfPaths.{IsNewFolder}
+use Rattle.hfs_bag.specs.ShelfPaths.{new_folder_path}
+use Rattle.hfs_bag.specs.ShelfPlaces.{others_in}
 use Rattle.hfs_bag.specs.Told.{IsFolderOrIn}
+use Rattle.hfs_bag.specs.declared.shelf_fault.ShelfFault.{ShelfFault}
+use Rattle.hfs_bag.specs.declared.shelf_fault.ShelfFault.TheVariants as fault
 
 -- each of these steps is such a step
 abbrev pub AreSteps : (SystemStep → Type 0) → List SystemStep → Type 0
@@ -16,10 +20,6 @@ pub record HasSince (Fact : SystemStep → Type 0) (old new : List SystemStep) :
   pub since : List SystemStep
   pub whole : new ≡ since ++ old
   pub each : AreSteps Fact since
-
--- what was asked failed
-abbrev pub HasFailed : SystemStep → Type 0
-HasFailed step = (asked : Asked) × (step ≡ failed asked)
 
 -- it removes a folder or what lies in it, or changes nothing that has a path but a time
 abbrev pub RemovesIn : List ℕ → SystemStep → Type 0
@@ -34,26 +34,28 @@ RemovesIn folder (done (removed_file path)) = IsFolderOrIn folder path
 RemovesIn folder (done (found_folder path)) = ⊤
 RemovesIn folder (done (removed_folder path)) = IsFolderOrIn folder path
 RemovesIn folder (done (looked path there)) = ⊤
+RemovesIn folder (done (listed path)) = ⊤
+RemovesIn folder (done (named bytes)) = ⊤
 
--- a removal of a folder or of what lies in it failed
-abbrev pub FailsIn : List ℕ → SystemStep → Type 0
-FailsIn folder step =
-    (path : List ℕ) × IsFolderOrIn folder path × ((step ≡ failed (removed_folder path)) ⊎ (step ≡ failed (removed_file path)))
+-- a file in a folder was not removed; or the folder or one in it was not, after all that its names name was removed
+abbrev pub FailsIn : List ℕ → List SystemStep → SystemStep → Type 0
+FailsIn folder before step = (path : List ℕ) × IsFolderOrIn folder path
+    × ((step ≡ failed (removed_file path)) ⊎ ((step ≡ failed (removed_folder path)) × ((old : List SystemStep) × HasEmptied path old before)))
 
 -- a folder was removed, which the system does only where it is empty; or such a removal failed
-abbrev pub EndsRemoval : List ℕ → SystemStep → Type 0
-EndsRemoval folder step = (step ≡ done (removed_folder folder)) ⊎ FailsIn folder step
+abbrev pub EndsRemoval : List ℕ → List SystemStep → SystemStep → Type 0
+EndsRemoval folder before step = (step ≡ done (removed_folder folder)) ⊎ FailsIn folder before step
 
 -- the steps since the old ones remove in a folder, and then such a step
-pub record HasLast (Last : SystemStep → Type 0) (folder : List ℕ) (old new : List SystemStep) : Type 0 where
+pub record HasLast (Last : List SystemStep → SystemStep → Type 0) (folder : List ℕ) (old new : List SystemStep) : Type 0 where
   pub before : List SystemStep
   pub last : SystemStep
   pub ends : new ≡ last ∷ before
   pub removes : HasSince (RemovesIn folder) old before
-  pub is_last : Last last
+  pub is_last : Last before last
 
 -- a folder was taken away: since the old steps nothing was changed but what is removed in it, and it was removed at last, as far as the
--- system removed what lay in it
+-- system gave the names of what lay in it and removed that
 abbrev pub IsTakenAway : List ℕ → List SystemStep → List SystemStep → Type 0
 IsTakenAway folder old new = HasLast (EndsRemoval folder) folder old new
 
@@ -70,21 +72,57 @@ pub record HasNext (asked : Asked) (time : Option ℕ) (old new : List SystemSte
   pub closes : IsClosed time old between
   pub next : new ≡ done asked ∷ between
 
--- a folder was made under the first of its hundred names that was free
+-- after these steps, a folder was not made under the first so many of the names that it may have
+abbrev pub with_refused : List ℕ → ℕ → List SystemStep → List SystemStep
+with_refused path zero steps = steps
+with_refused path (suc number) steps = failed (made_folder (new_folder_path path number)) ∷ with_refused path number steps
+
+-- a folder was made under the first of its hundred names for which the system did it
 pub record HasNewFolder (path folder : List ℕ) (old new : List SystemStep) : Type 0 where
-  pub beside : IsNewFolder path folder
-  pub tried : List SystemStep
-  pub refused : HasSince HasFailed old tried
-  pub made : new ≡ done (made_folder folder) ∷ tried
+  pub number : ℕ
+  pub below : number < 100
+  pub name : folder ≡ new_folder_path path number
+  pub made : new ≡ done (made_folder folder) ∷ with_refused path number old
+
+-- so it was, and then opened
+pub record HasOpenedFolder (path folder : List ℕ) (old new : List SystemStep) : Type 0 where
+  pub between : List SystemStep
+  pub is_new : HasNewFolder path folder old between
+  pub opens : new ≡ done (listed folder) ∷ between
+
+-- the fault names the path whose hundred names were refused, or the name that was refused last
+abbrev pub TellsRefused : List ℕ → ℕ → ShelfFault → Type 0
+TellsRefused path tried (fault.CannotWrite told) =
+    ((tried ≡ 100) × (string_bytes told ≡ path)) ⊎ ((number : ℕ) × (tried ≡ number + 1) × (string_bytes told ≡ new_folder_path path number))
+TellsRefused path tried fault.NoMemory = ⊤
+
+-- no folder was made under the first so many of its names, and no other was tried
+pub record HasRefused (path : List ℕ) (why : ShelfFault) (old new : List SystemStep) : Type 0 where
+  pub tried : ℕ
+  pub most : tried ≤ 100
+  pub told : TellsRefused path tried why
+  pub steps : new ≡ with_refused path tried old
+
+-- this path can't be written
+abbrev pub IsUnwritable : List ℕ → ShelfFault → Type 0
+IsUnwritable path (fault.CannotWrite told) = string_bytes told ≡ path
+IsUnwritable path fault.NoMemory = ⊥
+
+-- a folder was made and not opened, and it is taken away
+pub record HasUnopened (path : List ℕ) (why : ShelfFault) (old new : List SystemStep) : Type 0 where
+  pub folder : List ℕ
+  pub between : List SystemStep
+  pub is_new : HasNewFolder path folder old between
+  pub told : IsUnwritable folder why
+  pub away : IsTakenAway folder (failed (listed folder) ∷ between) new
 
 -- no folder was made, or the one that was made is taken away
-abbrev pub HasNoNewFolder : List ℕ → List SystemStep → List SystemStep → Type 0
-HasNoNewFolder path old new =
-    HasSince HasFailed old new
-    ⊎ ((folder : List ℕ) × (made : List SystemStep) × HasNewFolder path folder old made × IsTakenAway folder made new)
+abbrev pub HasNoNewFolder : List ℕ → ShelfFault → List SystemStep → List SystemStep → Type 0
+HasNoNewFolder path why old new = HasRefused path why old new ⊎ HasUnopened path why old new
 
--- a folder with these entries in it got this path, as the last step
-pub record IsPlaced (path folder : List ℕ) (entries : List ShelfEntry) (steps : List SystemStep) : Type 0 where
+-- a folder with these entries in it got this path, as the last step; before, anything else was made, opened, moved or removed by these others alone
+pub record IsPlaced (path folder : List ℕ) (entries : List ShelfEntry) (others steps : List SystemStep) : Type 0 where
   pub made : List SystemStep
   pub entries_are : made_in folder made ≡ entries
+  pub others_are : others_in folder made ≡ others
   pub placed : steps ≡ done (moved folder path) ∷ made

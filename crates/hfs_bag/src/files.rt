@@ -2,10 +2,11 @@
 ghost use Rattle.std.specs.Prelude.{◌≡◌, ◌∷◌, ◌*◌, [], List, None, Some, IfErr, IfOk, IfSome, MatchResult, OnErr, OnOk, is_some, string_bytes, true};
 ghost use Rattle.std.specs.Time.{system_time_nanos};
 ghost use Rattle.hfs_bag.specs.ShelfPaths.{IsNewFolder, new_folder_path, path_within};
+ghost use Rattle.hfs_bag.specs.ShelfPlaces.{others_in, shelf_place};
 ghost use Rattle.hfs_bag.specs.Told.{Tells, TellsNewFolder, TellsWithin};
 ghost use Rattle.hfs_bag.specs.Entries.{IsBeginning, with_folder, with_file, with_piece};
 ghost use Rattle.hfs_bag.specs.MadeFolders.{given_by};
-ghost use Rattle.hfs_bag.specs.Removals.{HasFailed, HasNewFolder, HasNext, HasNoNewFolder, HasSince, IsClosed, IsPlaced, IsTakenAway, RemovesIn};
+ghost use Rattle.hfs_bag.specs.Removals.{HasNewFolder, HasNext, HasNoNewFolder, HasOpenedFolder, HasRefused, HasSince, IsClosed, IsPlaced, IsTakenAway, RemovesIn};
 ghost use Rattle.hfs_bag.specs.SystemSteps.{SystemStep, done, looked, made_folder, makes_file, moved, opened};
 ghost use Rattle.hfs_bag.specs.Left.{IsLeft, IsOrNoMemory};
 
@@ -47,7 +48,7 @@ pub struct FileShelf<Y: FileSystem> {
     kept: Option<Y::Names>,
 }
 
-/// Makes the folder in which a folder at this path is written, under the first name that is free.
+/// Makes the folder in which a folder at this path is written, under the first name that the system gives it.
 #[tactic(auto, using(crate::proofs::PlacingLemmas::placing))]
 fn new_folder<Y: FileSystem>(
     alloc: Global,
@@ -56,7 +57,8 @@ fn new_folder<Y: FileSystem>(
 ) -> Result<String, ShelfFault>
     ensures made { IfOk result
         (λ folder. HasNewFolder path.now (string_bytes folder) (Y.did system.old) (Y.did system.new)) }
-    ensures none { OnErr result (HasSince HasFailed (Y.did system.old) (Y.did system.new)) }
+    ensures none { IfErr result
+        (λ why. HasRefused path.now why (Y.did system.old) (Y.did system.new)) }
     ensures told { IfErr result (TellsNewFolder path.now) }
 {
     for number in 0..NAMES {
@@ -83,9 +85,10 @@ impl<Y: FileSystem> FileShelf<Y> {
     pub fn create(alloc: Global, system: Y, path: &str) -> Result<FileShelf<Y>, Unmade<Y>>
         ensures empty { IfOk result (λ shelf. given_by (string_bytes shelf.folder) shelf.modified (Y.did shelf.system) ≡ []) }
         ensures beside { IfOk result (λ shelf. IsNewFolder path.now (string_bytes shelf.folder)) }
-        ensures made { IfOk result (λ shelf. HasNewFolder path.now (string_bytes shelf.folder)
+        ensures made { IfOk result (λ shelf. HasOpenedFolder path.now (string_bytes shelf.folder)
             (Y.did system) (Y.did shelf.system)) }
-        ensures none { IfErr result (λ back. HasNoNewFolder path.now (Y.did system) (Y.did back.system)) }
+        ensures none { IfErr result (λ back. HasNoNewFolder path.now back.fault
+            (Y.did system) (Y.did back.system)) }
         ensures told { IfErr result (λ back. TellsNewFolder path.now back.fault) }
     {
         let mut system = system;
@@ -117,7 +120,8 @@ impl<Y: FileSystem> FileShelf<Y> {
         ensures placed { IfOk result (λ system. HasNext (moved (string_bytes self.folder) path.now)
             self.modified (Y.did self.system) (Y.did system)) }
         ensures whole { IfOk result (λ system. IsPlaced path.now (string_bytes self.folder)
-            (given_by (string_bytes self.folder) self.modified (Y.did self.system)) (Y.did system)) }
+            (given_by (string_bytes self.folder) self.modified (Y.did self.system))
+            (others_in (string_bytes self.folder) (Y.did self.system)) (Y.did system)) }
         ensures away { IfErr result (λ back. IsLeft back.fault (string_bytes self.folder)
             (Y.did self.system) (Y.did back.system)) }
         ensures told { IfErr result (λ back. Tells path.now back.fault) }
@@ -167,6 +171,8 @@ impl<Y: FileSystem> FileShelf<Y> {
         ensures closed { IsClosed self.old.modified (Y.did self.old.system) (Y.did self.new.system) }
         ensures given { given_by (string_bytes self.new.folder) self.new.modified (Y.did self.new.system)
             ≡ given_by (string_bytes self.old.folder) self.old.modified (Y.did self.old.system) }
+        ensures others { others_in (string_bytes self.new.folder) (Y.did self.new.system)
+            ≡ others_in (string_bytes self.old.folder) (Y.did self.old.system) }
         ensures none { self.new.modified ≡ None }
         ensures folder { self.new.folder ≡ self.old.folder }
     {
@@ -266,9 +272,9 @@ pub fn left_in<Y: FileSystem>(
 impl<Y: FileSystem> Shelf for FileShelf<Y> {
     ghost given = { λ shelf. given_by (string_bytes shelf.folder) shelf.modified (Y.did shelf.system) };
 
-    ghost place = { λ shelf. string_bytes shelf.folder };
+    ghost place = { λ shelf. shelf_place (string_bytes shelf.folder) (Y.did shelf.system) };
 
-    ghost Fails = { TellsWithin };
+    ghost Fails = { λ place. TellsWithin place.folder };
 
     #[tactic(auto, using(crate::proofs::Beginnings::beginnings, crate::proofs::FolderLemmas::growing, crate::proofs::PlacingLemmas::next_now))]
     fn make_folder(&mut self, path: &str) -> Result<(), ShelfFault>
@@ -280,7 +286,8 @@ impl<Y: FileSystem> Shelf for FileShelf<Y> {
             self.old.modified (Y.did self.old.system) (Y.did self.new.system)) }
         ensures told { IfErr result (Tells (path_within (string_bytes self.old.folder) path.now)) }
         ensures fault { IfErr result (TellsWithin (string_bytes self.old.folder)) }
-        ensures place { string_bytes self.new.folder ≡ string_bytes self.old.folder }
+        ensures place { shelf_place (string_bytes self.new.folder) (Y.did self.new.system)
+            ≡ shelf_place (string_bytes self.old.folder) (Y.did self.old.system) }
     {
         self.close();
         let Ok(whole) = path_within(self.alloc, self.folder.as_str(), path) else {
@@ -304,7 +311,8 @@ impl<Y: FileSystem> Shelf for FileShelf<Y> {
         ensures time { OnOk result (self.new.modified ≡ modified) }
         ensures told { IfErr result (Tells (path_within (string_bytes self.old.folder) path.now)) }
         ensures fault { IfErr result (TellsWithin (string_bytes self.old.folder)) }
-        ensures place { string_bytes self.new.folder ≡ string_bytes self.old.folder }
+        ensures place { shelf_place (string_bytes self.new.folder) (Y.did self.new.system)
+            ≡ shelf_place (string_bytes self.old.folder) (Y.did self.old.system) }
     {
         self.close();
         let Ok(whole) = path_within(self.alloc, self.folder.as_str(), path) else {
@@ -331,7 +339,8 @@ impl<Y: FileSystem> Shelf for FileShelf<Y> {
             (with_piece (given_by (string_bytes self.old.folder) self.old.modified (Y.did self.old.system)) piece.now)) }
         ensures time { self.new.modified ≡ self.old.modified }
         ensures fault { IfErr result (TellsWithin (string_bytes self.old.folder)) }
-        ensures place { string_bytes self.new.folder ≡ string_bytes self.old.folder }
+        ensures place { shelf_place (string_bytes self.new.folder) (Y.did self.new.system)
+            ≡ shelf_place (string_bytes self.old.folder) (Y.did self.old.system) }
     {
         let Some(made) = &self.made else {
             return Err(cannot_write(self.alloc, self.folder.as_str()));

@@ -40,6 +40,10 @@ pub enum Step<'a> {
     FoundFolder(&'a str),
     /// Whether anything has this path.
     Looked(&'a str, bool),
+    /// A folder is opened for its names.
+    Listed(&'a str),
+    /// Names of the folder that was opened last are read.
+    Named(&'a [u8]),
 }
 
 impl SystemLog {

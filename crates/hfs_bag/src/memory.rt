@@ -2,6 +2,7 @@
 ghost use Rattle.std.specs.Prelude.{◌≡◌, [], ◌∷◌, ◌++◌, IfErr, OnErr, OnOk};
 ghost use Rattle.hfs_bag.specs.Entries.{longer};
 ghost use Rattle.hfs_bag.specs.declared.shelf_fault.ShelfFault.TheVariants as fault;
+ghost use Rattle.hfs_bag.specs.ShelfPlaces.{shelf_place};
 ghost use Rattle.hfs_bag.specs.StoredEntries.{entry_with, stored_entries, stored_entry};
 
 use crate::shelf::Shelf;
@@ -79,7 +80,7 @@ fn keep(
 impl Shelf for MemoryShelf {
     ghost given = { λ shelf. stored_entries shelf.stored.items };
 
-    ghost place = { λ _. [] };
+    ghost place = { λ _. shelf_place [] [] };
 
     ghost Fails = { λ _ why. why ≡ fault.NoMemory };
 

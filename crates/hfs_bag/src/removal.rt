@@ -1,5 +1,6 @@
 //! Removing a folder with everything in it.
-ghost use Rattle.std.specs.Prelude.{◌≡◌, [], IfOk, MatchResult, is_some, string_bytes, true};
+ghost use Rattle.std.specs.Prelude.{◌≡◌, ◌<◌, ◌∷◌, [], length, IfOk, IfSome, MatchOption, MatchResult, is_some, string_bytes, true};
+ghost use Rattle.hfs_bag.specs.Listings.{HasEmptied, ended_names, is_entry, names_in, with_removal, with_removals};
 ghost use Rattle.hfs_bag.specs.Told.{IsFolderOrIn};
 ghost use Rattle.hfs_bag.specs.Removals.{HasSince, IsTakenAway, RemovesIn};
 ghost use Rattle.hfs_bag.specs.Tries.{AnswersTried, HasNextPlace, is_stopped};
@@ -7,7 +8,6 @@ ghost use Rattle.hfs_bag.specs.Tries.{AnswersTried, HasNextPlace, is_stopped};
 use crate::paths::path_within;
 use crate::system::{FileSystem, Removal};
 use std::alloc::{AllocError, Global};
-use std::io::Read;
 
 /// How many bytes of a folder's names are read at a time.
 const NAMES: usize = 4_096;
@@ -25,7 +25,7 @@ pub(crate) enum Tried {
 
 /// Removes a folder with everything in it; each folder is removed when it is empty. One folder is open at a time. Each is opened
 /// once, and once more for each folder in it. A link in it is removed, not what it leads to. Where the system refuses, the rest
-/// stays. Fails only when out of memory, and then the rest stays as well.
+/// stays. Fails only when out of memory, or if there are still folders after 2^64 - 1 of them, and then the rest stays as well.
 #[tactic(auto, using(crate::proofs::RemovalLemmas::removals))]
 pub(crate) fn remove_folder<Y: FileSystem>(
     alloc: Global,
@@ -44,8 +44,7 @@ pub(crate) fn remove_folder<Y: FileSystem>(
             Err(error) => return Err(error),
         }
     }
-    let _removed = system.remove_folder(folder);
-    Ok(())
+    Err(AllocError)
 }
 
 /// Removes what is at a path in a folder, up to the first folder in it; the path is empty for the folder itself. Returns the path
@@ -120,34 +119,55 @@ fn folder_of(alloc: Global, inner: &str) -> Result<String, AllocError> {
     }
 }
 
-/// Removes what is in a folder, up to the first folder in it. Names that are not text are skipped.
+/// The text in bytes; empty if they are no text.
+fn text_in(bytes: &[u8]) -> &str
+    ensures { ended_names result.now ≡ names_in bytes.now }
+{
+    match str::from_utf8(bytes) {
+        Ok(text) => text,
+        Err(_) => "",
+    }
+}
+
+/// Removes what is in a folder, up to the first folder in it. Names that are not text are skipped, with those that were read
+/// together with them. It gives up after 2^64 - 1 reads, as if memory were refused.
 #[tactic(auto, using(crate::proofs::RemovalLemmas::removals))]
 fn remove_to_folder<Y: FileSystem>(
     alloc: Global,
     system: &mut Y,
     folder: &str,
 ) -> Result<Tried, AllocError>
-    ensures { AnswersTried result folder.now (Y.did system.old) (Y.did system.new) }
+    ensures { AnswersTried result folder.now
+        (HasEmptied folder.now (Y.did system.old) (Y.did system.new))
+        (Y.did system.old) (Y.did system.new) }
 {
     let Ok(mut names) = system.names(folder) else {
         return Ok(Tried::Gone);
     };
     let mut bytes = [0; NAMES];
     for _ in 0..u64::MAX {
-        let count = names.read(&mut bytes).unwrap_or(0);
-        let Some(read) = bytes.get(..count) else {
+        let Ok(count) = system.read_names(&mut names, &mut bytes) else {
             return Ok(Tried::Gone);
         };
+        let read = &bytes[..count];
         if read.is_empty() {
             return Ok(Tried::Gone);
         }
-        let text = str::from_utf8(read).unwrap_or("");
-        let tried = remove_names(alloc, system, folder, text);
+        let tried = remove_names(alloc, system, folder, text_in(read));
         if is_stopped(&tried) {
             return tried;
         }
     }
-    Ok(Tried::Gone)
+    Err(AllocError)
+}
+
+/// The first name of these, each of which is ended by a zero byte, and those behind it.
+fn first_name(names: &str) -> Option<(&str, &str)>
+    ensures cut { MatchOption result (ended_names names.now ≡ [])
+        (λ cut. ended_names names.now ≡ cut.0.now ∷ ended_names cut.1.now) }
+    ensures shorter { IfSome result (λ cut. length cut.1.now < length names.now) }
+{
+    names.split_once('\0')
 }
 
 /// Removes the entries of a folder with these names, each of which ends with a zero byte, up to the first folder.
@@ -158,13 +178,12 @@ fn remove_names<Y: FileSystem>(
     folder: &str,
     names: &str,
 ) -> Result<Tried, AllocError>
-    ensures { AnswersTried result folder.now (Y.did system.old) (Y.did system.new) }
+    ensures { AnswersTried result folder.now
+        (Y.did system.new ≡ with_removals folder.now (ended_names names.now) (Y.did system.old))
+        (Y.did system.old) (Y.did system.new) }
 {
     let mut rest = names;
-    for _ in 0..names.len() {
-        let Some((name, behind)) = rest.split_once('\0') else {
-            return Ok(Tried::Gone);
-        };
+    while let Some((name, behind)) = first_name(rest) {
         let tried = remove_name(alloc, system, folder, name);
         if is_stopped(&tried) {
             return tried;
@@ -186,8 +205,14 @@ fn is_stopped(tried: &Result<Tried, AllocError>) -> bool
     }
 }
 
-/// Removes the entry of a folder with this name, unless it is a folder. The folder's own entries for itself and its parent are
-/// skipped, and so is an empty name.
+/// Whether this names something in a folder: it is neither empty nor the folder's own entry for itself or its parent.
+fn is_entry(name: &str) -> bool
+    ensures { result ≡ is_entry name.now }
+{
+    !(name.is_empty() || name == "." || name == "..")
+}
+
+/// Removes the entry of a folder with this name, if it names one, unless it is a folder.
 #[tactic(auto, using(crate::proofs::RemovalLemmas::removals))]
 fn remove_name<Y: FileSystem>(
     alloc: Global,
@@ -195,9 +220,11 @@ fn remove_name<Y: FileSystem>(
     folder: &str,
     name: &str,
 ) -> Result<Tried, AllocError>
-    ensures { AnswersTried result folder.now (Y.did system.old) (Y.did system.new) }
+    ensures { AnswersTried result folder.now
+        (Y.did system.new ≡ with_removal folder.now name.now (Y.did system.old))
+        (Y.did system.old) (Y.did system.new) }
 {
-    if name.is_empty() || name == "." || name == ".." {
+    if !is_entry(name) {
         return Ok(Tried::Gone);
     }
     let path = match path_within(alloc, folder, name) {

@@ -1,19 +1,20 @@
 //! The trait of shelves.
-ghost use Rattle.std.specs.Prelude.{◌≡◌, ℕ, List, IfErr, OnErr, OnOk};
+ghost use Rattle.std.specs.Prelude.{◌≡◌, List, IfErr, OnErr, OnOk};
+ghost use Rattle.hfs_bag.specs.ShelfPlaces.{ShelfPlace};
 ghost use Rattle.hfs_bag.specs.declared.shelf_fault.ShelfFault.{ShelfFault};
 ghost use Rattle.hfs_bag.specs.Entries.{ShelfEntry, IsBeginning, with_folder, with_file, with_piece};
 
 use crate::shelf_fault::ShelfFault;
 
 /// What takes folders and files: each is made by its path, and a file's bytes come in pieces, one after another. Contracts see a
-/// shelf as the list of what it was given, the path of the folder that it writes, and the faults that a shelf of its kind may
-/// return there.
+/// shelf as the list of what it was given, the place where it writes, at which nothing else is done, and the faults that a shelf of
+/// its kind may return there.
 pub trait Shelf {
     ghost given: { Self → List ShelfEntry };
 
-    ghost place: { Self → List ℕ };
+    ghost place: { Self → ShelfPlace };
 
-    ghost Fails: { List ℕ → ShelfFault → Type 0 };
+    ghost Fails: { ShelfPlace → ShelfFault → Type 0 };
 
     /// Makes a folder. Faults: `CannotWrite` of its path, `NoMemory`.
     fn make_folder(&mut self, path: &str) -> Result<(), ShelfFault>

@@ -1,13 +1,12 @@
 //! What a shelf of files asks of the system.
-ghost use Rattle.std.specs.Prelude.{◌≡◌, ◌∷◌, List, MatchResult};
+ghost use Rattle.std.specs.Prelude.{◌≡◌, ◌≤◌, ◌∷◌, [], List, length, take, IfOk, MatchResult};
 ghost use Rattle.std.specs.Time.{system_time_nanos};
-ghost use Rattle.hfs_bag.specs.SystemSteps.{Does, SystemStep, made_folder, opened, wrote, timed, closed, moved, removed_folder, looked, done, failed, makes_file};
+ghost use Rattle.hfs_bag.specs.SystemSteps.{Does, SystemStep, made_folder, opened, wrote, timed, closed, moved, removed_folder, looked, listed, named, done, failed, makes_file};
 ghost use Rattle.hfs_bag.specs.FileRemovals.{removal_of};
 ghost use Rattle.hfs_bag.specs.declared.system.Removal.TheVariants as found;
 
 use std::fs::OpenOptions;
 use std::io;
-use std::io::Read;
 use std::time::SystemTime;
 
 /// What was at a path where a file was to be removed.
@@ -23,8 +22,8 @@ pub enum Removal {
 pub trait FileSystem {
     ghost did: { Self → List SystemStep };
 
-    /// A folder's names, each of which ends with a zero byte.
-    type Names: Read + Drop;
+    /// A folder that is open, and the names in it.
+    type Names: Drop;
 
     /// Makes a folder, if nothing has its path.
     fn make_folder(&mut self, path: &str) -> io::Result<()>
@@ -60,8 +59,17 @@ pub trait FileSystem {
     fn remove_folder(&mut self, path: &str) -> io::Result<()>
         ensures { Does result (removed_folder path.now) (did self.old) (did self.new) };
 
-    /// The names of what is in a folder.
-    fn names(&self, folder: &str) -> io::Result<Self::Names>;
+    /// Opens a folder, for the names of what is in it.
+    fn names(&mut self, folder: &str) -> io::Result<Self::Names>
+        ensures { Does result (listed folder.now) (did self.old) (did self.new) };
+
+    /// Reads more names of the folder that was opened last, each ended by a zero byte, and returns how many bytes these are; none
+    /// at their end.
+    fn read_names(&mut self, names: &mut Self::Names, into: &mut [u8]) -> io::Result<usize>
+        ensures within { IfOk result (λ count. count ≤ length into.new) }
+        ensures read { MatchResult result
+            (λ count. did self.new ≡ done (named (take count into.new)) ∷ did self.old)
+            (λ _. did self.new ≡ failed (named []) ∷ did self.old) };
 
     /// Whether anything has this path, even a link that leads nowhere.
     fn is_there(&mut self, path: &str) -> bool

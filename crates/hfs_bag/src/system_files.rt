@@ -5,7 +5,7 @@ ghost use Rattle.hfs_bag.specs.LoggedSteps.{with_step, with_failed};
 use crate::log::{Step, SystemLog};
 use crate::system::{FileSystem, Removal};
 use std::fs::{File, FileTimes, OpenFile, OpenOptions};
-use std::io::{ErrorKind, Write};
+use std::io::{ErrorKind, Read, Write};
 use std::rt::Files;
 use std::time::SystemTime;
 use std::{fs, io};
@@ -129,8 +129,24 @@ impl<R: Files> FileSystem for SystemFiles<'_, R> {
         came
     }
 
-    fn names(&self, folder: &str) -> io::Result<R::Dir> {
-        self.rt.open_dir(folder)
+    fn names(&mut self, folder: &str) -> io::Result<R::Dir> {
+        let came = self.rt.open_dir(folder);
+        self.log = noted(&self.log, &Step::Listed(folder), &came);
+        came
+    }
+
+    fn read_names(&mut self, names: &mut R::Dir, into: &mut [u8]) -> io::Result<usize> {
+        match names.read(into) {
+            Ok(count) => {
+                let count = count.min(into.len());
+                self.log = self.log.then(&Step::Named(&into[..count]));
+                Ok(count)
+            }
+            Err(error) => {
+                self.log = self.log.then_failed(&Step::Named(&[]));
+                Err(error)
+            }
+        }
     }
 
     fn is_there(&mut self, path: &str) -> bool {

@@ -1,58 +1,48 @@
 -- A bag that was given is the one that got its place, and one that was not is taken away.
 use Rattle.std.proofs.Common.{◌≡◌, ℕ, Bool, true, false, List, [], ◌∷◌, ◌++◌, Option, Some, Result, Ok, Err, refl, sym, ap, subst, ◌∙◌, inl, inr}
 use Rattle.std.specs.Prelude.{IfErr, IfOk}
-use Rattle.hfs_commands.specs.declared.fault.Fault.TheVariants.{NoMemory}
 use Rattle.hfs_bag.specs.declared.shelf_fault.ShelfFault.{ShelfFault}
-use Rattle.hfs_bag.specs.declared.shelf_fault.ShelfFault.TheVariants as shelf
 use Rattle.hfs_bag.specs.Entries.{ShelfEntry}
-use Rattle.hfs_bag.specs.Left.{IsLeft}
-use Rattle.hfs_bag.specs.Removals.{IsPlaced}
-use Rattle.hfs_bag.specs.ShelfPaths.{IsNewFolder}
+use Rattle.hfs_bag.specs.Removals.{HasOpenedFolder, IsPlaced}
+use Rattle.hfs_bag.specs.ShelfPlaces.{ShelfPlace, others_in, shelf_place}
 use Rattle.hfs_bag.specs.SystemSteps.{SystemStep, done, looked}
 use Rattle.hfs_bag.specs.Told.{Tells}
 use Rattle.hfs_source.specs.Images.{OfEach}
 use Rattle.hfs_source.specs.Seen.{EachKnown}
 use Rattle.hfs_word_take.specs.declared.fault.TakeFault.{TakeFault}
 use Rattle.hfs_word_take.specs.declared.fault.TakeFault.TheVariants as take
-use Rattle.hfs_word_take.specs.declared.words.TakeWords.{TakeWords}
 use Rattle.hfs_word_take.specs.TakeFaults.{IsTakeFault, fault_of_shelf}
+use Rattle.hfs_word_take.specs.Placed.{IsAwayFor, IsBagAway, tells_there}
 use Rattle.hfs_word_take.proofs.FaultLemmas.{of_shelf, unplaced}
+use Rattle.hfs_word_take.proofs.PlacedBagLemmas.{bag_away}
 use Rattle.hfs_word_rescue.specs.declared.words.BagWords.{BagWords}
 use Rattle.hfs_word_rescue.specs.Bags.{OfKnownBag}
-use Rattle.hfs_word_rescue.specs.Placed.{IsAwayFor, IsBagAway, IsBagPlaced, IsBagUnplaced, StaysOrNoMemory}
+use Rattle.hfs_word_rescue.specs.Placed.{IsBagPlaced, IsBagUnplaced}
 use Rattle.hfs_word_rescue.specs.Words.{as_take_words}
 
 -- ---- a folder that did not get its place
-
-pub left_away : (fault : ShelfFault) (found : TakeFault) (folder : List ℕ) (old new : List SystemStep) → found ≡ fault_of_shelf fault → IsLeft fault folder old new
-    → IsAwayFor found folder old new
-left_away (shelf.CannotWrite path) found folder old new told is = inl is
-left_away shelf.NoMemory found folder old new told is = inr (told, is)
 
 pub unplaced_told : (words : BagWords) (fault : ShelfFault) (found : TakeFault) → found ≡ fault_of_shelf fault → Tells words.folder.now fault
     → IsTakeFault (as_take_words words) found
 unplaced_told words fault found told tells = of_shelf (as_take_words words) fault found told (unplaced words.folder.now fault tells)
 
--- memory may be refused in any image
-pub stays_told : (words : TakeWords) (was is : TakeFault) → StaysOrNoMemory was is → IsTakeFault words was → IsTakeFault words is
-stays_told words was is (inl same) told = subst (IsTakeFault words) (sym same) told
-stays_told words was is (inr none) told = subst (IsTakeFault words) (sym none) (inl (inr (inl (inr refl))))
-
 -- ---- a bag
 
 -- what was given to an empty folder lies in it
 pub bag-placed : {T E : Type 0} (Holds : T → List ℕ → Type 0) (Now : List ℕ → Type 0) (len : ℕ) (line : Option (List ℕ)) (words : BagWords) (folder now : List ℕ) (before given : List ShelfEntry)
-    (steps : T → List SystemStep) (came : Result T E) → before ≡ [] → now ≡ folder → IsNewFolder words.folder.now folder
-    → EachKnown Now (λ known. OfKnownBag known len line words (λ bag. given ≡ before ++ bag)) → IfOk came (λ placed. IsPlaced words.folder.now now given (steps placed))
-    → IfOk came (λ placed. OfEach (Holds placed) Now) → IfOk came (λ placed. IsBagPlaced (Holds placed) len line words (steps placed))
-bag-placed Holds Now len line words folder now before given steps (Ok placed) empty same beside whole is held = record {
-  folder = now;
-  beside = subst (IsNewFolder words.folder.now) (sym same) beside;
+    (old opened filled : List SystemStep) (steps : T → List SystemStep) (came : Result T E) → before ≡ [] → shelf_place now filled ≡ shelf_place folder opened → HasOpenedFolder words.folder.now folder old opened
+    → EachKnown Now (λ known. OfKnownBag known len line words (λ bag. given ≡ before ++ bag)) → IfOk came (λ placed. IsPlaced words.folder.now now given (others_in now filled) (steps placed))
+    → IfOk came (λ placed. OfEach (Holds placed) Now) → IfOk came (λ placed. IsBagPlaced (Holds placed) len line words old (steps placed))
+bag-placed Holds Now len line words folder now before given old opened filled steps (Ok placed) empty place is_new whole is held = record {
+  folder = folder;
+  opened = opened;
+  is_new = is_new;
   entries = given;
-  placed = is;
+  placed = subst (λ (f : List ℕ). IsPlaced words.folder.now f given (others_in folder opened) (steps placed)) (ap (λ (p : ShelfPlace). p.folder) place)
+      (subst (λ (others : List SystemStep). IsPlaced words.folder.now now given others (steps placed)) (ap (λ (p : ShelfPlace). p.others) place) is);
   bag_is = λ image h. subst (λ (b : List ShelfEntry). OfKnownBag (Some image) len line words (λ (bag : List ShelfEntry). given ≡ b ++ bag)) empty (whole image (held image h));
 }
-bag-placed Holds Now len line words folder now before given steps (Err e) empty same beside whole is held = tt
+bag-placed Holds Now len line words folder now before given old opened filled steps (Err e) empty place is_new whole is held = tt
 
 -- what holds of the source that comes back held of that which was given
 pub kept_source : {T E S : Type 0} (source_of : T → S) (source : S) (Holds : S → List ℕ → Type 0) (came : Result T E) → IfOk came (λ placed. source_of placed ≡ source)
@@ -61,11 +51,11 @@ kept_source source_of source Holds (Ok placed) same = λ image h. subst (λ s. H
 kept_source source_of source Holds (Err e) same = tt
 
 -- and it is taken away where it gets no place
-pub bag-away : {T E : Type 0} (path folder now : List ℕ) (fault : E → TakeFault) (steps : E → List SystemStep) (old filled : List SystemStep) (came : Result T E)
-    → now ≡ folder → IsNewFolder path folder → IfErr came (λ back. IsAwayFor (fault back) now filled (steps back))
-    → IfErr came (λ back. IsBagAway path (fault back) old (steps back))
-bag-away path folder now fault steps old filled (Ok placed) same beside is = tt
-bag-away path folder now fault steps old filled (Err back) same beside is = inr (now, filled, subst (IsNewFolder path) (sym same) beside, is)
+pub bag-away : {T E : Type 0} (path folder now : List ℕ) (fault : E → TakeFault) (steps : E → List SystemStep) (old opened filled : List SystemStep) (came : Result T E)
+    → shelf_place now filled ≡ shelf_place folder opened → HasOpenedFolder path folder old opened → IfErr came (λ back. IsAwayFor (fault back) now filled (steps back))
+    → IfErr came (λ back. tells_there (fault back) ≡ false) → IfErr came (λ back. IsBagAway path (fault back) old (steps back))
+bag-away path folder now fault steps old opened filled (Ok placed) place is_new away other = tt
+bag-away path folder now fault steps old opened filled (Err back) place is_new away other = bag_away path folder now (fault back) old opened filled (steps back) place is_new away other
 
 -- ---- behind a look
 

@@ -1,13 +1,16 @@
 //! The word that rescues what remains of an image.
-ghost use Rattle.std.specs.Prelude.{◌≡◌, ◌⊎◌, IfErr, IfOk, string_bytes};
+ghost use Rattle.std.specs.Prelude.{◌≡◌, ◌⊎◌, ◌∷◌, false, IfErr, IfOk, string_bytes};
 ghost use Rattle.std.specs.Option.{option_map};
 ghost use Rattle.hfs_bag.specs.MadeFolders.{given_by};
 ghost use Rattle.hfs_bag.specs.Removals.{IsPlaced};
+ghost use Rattle.hfs_bag.specs.ShelfPlaces.{others_in};
+ghost use Rattle.hfs_bag.specs.SystemSteps.{done, looked};
 ghost use Rattle.hfs_word_take.specs.TakeFaults.{IsTakeFault};
 ghost use Rattle.hfs_source.specs.Images.{OfEach};
 ghost use Rattle.hfs_source.specs.Seen.{EachKnown};
 ghost use Rattle.hfs_word_rescue.specs.Answers.{IsKnownAnswer};
-ghost use Rattle.hfs_word_rescue.specs.Placed.{IsAwayFor, IsBagAway, IsBagPlaced, IsBagUnplaced, StaysOrNoMemory};
+ghost use Rattle.hfs_word_take.specs.Placed.{IsAwayFor, IsBagAway, StaysOrNoMemory, tells_there};
+ghost use Rattle.hfs_word_rescue.specs.Placed.{IsBagPlaced, IsBagUnplaced};
 ghost use Rattle.hfs_word_rescue.specs.Words.{as_take_words};
 
 use crate::answer::{RescueAnswer, Rescued};
@@ -45,10 +48,12 @@ fn place_bag<'a, Y: FileSystem + Drop, S: PlacedBlocks + Drop>(
     words: &BagWords<'a>,
 ) -> Result<PlacedBag<Y, S>, UnplacedBag<'a, Y>>
     ensures placed { IfOk result (λ placed. IsPlaced words.now.folder.now (string_bytes shelf.folder)
-        (given_by (string_bytes shelf.folder) shelf.modified (Y.did shelf.system)) (Y.did placed.system)) }
+        (given_by (string_bytes shelf.folder) shelf.modified (Y.did shelf.system))
+        (others_in (string_bytes shelf.folder) (Y.did shelf.system)) (Y.did placed.system)) }
     ensures answer { IfOk result (λ placed. placed.answer ≡ answer) }
     ensures source { IfOk result (λ placed. placed.source ≡ source) }
     ensures fault { IfErr result (λ back. IsTakeFault (as_take_words words.now) back.fault) }
+    ensures other { IfErr result (λ back. tells_there back.fault ≡ false) }
     ensures away { IfErr result (λ back. IsAwayFor back.fault (string_bytes shelf.folder)
         (Y.did shelf.system) (Y.did back.system)) }
 {
@@ -93,7 +98,7 @@ fn write_bag<'a, Y: FileSystem + Drop, S: PlacedBlocks + Drop, W: Watch>(
     watch: &W,
 ) -> Result<PlacedBag<Y, S>, UnplacedBag<'a, Y>>
     ensures placed { IfOk result (λ placed. IsBagPlaced (S.Holds placed.source.blocks) image.len
-        (option_map string_bytes image.line) words.now (Y.did placed.system)) }
+        (option_map string_bytes image.line) words.now (Y.did system) (Y.did placed.system)) }
     ensures answer { IfOk result (λ placed. EachKnown (S.Holds placed.source.blocks)
         (λ known. IsKnownAnswer known image.len words.now.words placed.answer)) }
     ensures narrows { IfOk result (λ placed. OfEach (S.Holds placed.source.blocks)
@@ -135,7 +140,8 @@ pub fn rescue_opened<'a, Y: FileSystem + Drop, S: PlacedBlocks + Drop, W: Watch>
     watch: &W,
 ) -> Result<PlacedBag<Y, S>, UnplacedBag<'a, Y>>
     ensures placed { IfOk result (λ placed. IsBagPlaced (S.Holds placed.source.blocks) image.len
-        (option_map string_bytes image.line) words.now (Y.did placed.system)) }
+        (option_map string_bytes image.line) words.now
+        (done (looked words.now.folder.now false) ∷ Y.did system) (Y.did placed.system)) }
     ensures answer { IfOk result (λ placed. EachKnown (S.Holds placed.source.blocks)
         (λ known. IsKnownAnswer known image.len words.now.words placed.answer)) }
     ensures narrows { IfOk result (λ placed. OfEach (S.Holds placed.source.blocks)

@@ -7,26 +7,36 @@ use Rattle.hfs_bag.specs.declared.shelf_fault.ShelfFault.{ShelfFault}
 use Rattle.hfs_bag.specs.declared.shelf_fault.ShelfFault.TheVariants as shelf
 use Rattle.hfs_bag.specs.Entries.{ShelfEntry}
 use Rattle.hfs_bag.specs.Left.{IsLeft}
-use Rattle.hfs_bag.specs.Removals.{IsPlaced}
-use Rattle.hfs_bag.specs.ShelfPaths.{IsNewFolder}
+use Rattle.hfs_bag.specs.declared.fault.BagFault.{BagFault}
+use Rattle.hfs_bag.specs.declared.fault.BagFault.TheVariants as bag
+use Rattle.hfs_bag.specs.declared.source.SourceFault.TheVariants as source
+use Rattle.hfs_bag.specs.Removals.{HasOpenedFolder, IsPlaced}
+use Rattle.hfs_bag.specs.ShelfPlaces.{ShelfPlace, others_in, shelf_place}
+use Rattle.hfs_check.specs.declared.mount_fault.MountFault.TheVariants as mount
+use Rattle.hfs_commands.specs.declared.fault.Fault.TheVariants.{CannotRead, NoMemory, Refused}
 use Rattle.hfs_bag.specs.SystemSteps.{SystemStep, done, looked}
 use Rattle.hfs_bag.specs.Told.{Tells}
 use Rattle.hfs_word_take.specs.declared.fault.TakeFault.{TakeFault}
 use Rattle.hfs_word_take.specs.declared.fault.TakeFault.TheVariants as take
 use Rattle.hfs_word_take.specs.declared.words.TakeWords.{TakeWords}
 use Rattle.hfs_word_take.specs.Bags.{OfBag, image_bag}
-use Rattle.hfs_word_take.specs.TakeFaults.{IsTakeFault, fault_of_shelf}
-use Rattle.hfs_word_take.specs.Placed.{HasPlaced, IsAwayFor, IsBagAway, IsBagUnplaced, StaysOrNoMemory}
+use Rattle.hfs_word_take.specs.TakeFaults.{IsTakeFault, KeepsShelfFault, fault_of_shelf}
+use Rattle.hfs_word_take.specs.Placed.{HasPlaced, IsAwayFor, IsBagAway, IsBagUnplaced, StaysOrNoMemory, tells_there}
 use Rattle.hfs_word_take.proofs.FaultLemmas.{of_shelf, unplaced}
 
 -- a folder that has been given the bag, beginning with nothing, got its place
 pub placed-bag : (Holds : List ℕ → Type 0) (line : Option (List ℕ)) (words : TakeWords) (path folder now : List ℕ) (before given : List ShelfEntry)
-    (steps : List SystemStep) → before ≡ [] → now ≡ folder → IsNewFolder path folder → OfEach Holds (OfBag line words (λ bag. given ≡ before ++ bag))
-    → IsPlaced path now given steps → OfEach Holds (OfBag line words (λ bag. HasPlaced path bag steps))
-placed-bag Holds line words path folder now before given steps empty same beside whole is = λ image h facts tells. record {
-  folder = now;
-  beside = subst (IsNewFolder path) (sym same) beside;
-  placed = subst (λ (bag : List ShelfEntry). IsPlaced path now bag steps) (whole image h facts tells ∙ ap (λ (xs : List ShelfEntry). xs ++ image_bag image facts) empty) is;
+    (old opened filled steps : List SystemStep) → before ≡ [] → shelf_place now filled ≡ shelf_place folder opened → HasOpenedFolder path folder old opened
+    → OfEach Holds (OfBag line words (λ bag. given ≡ before ++ bag)) → IsPlaced path now given (others_in now filled) steps
+    → OfEach Holds (OfBag line words (λ bag. HasPlaced path bag old steps))
+placed-bag Holds line words path folder now before given old opened filled steps empty place is_new whole is = λ image h facts tells. record {
+  folder = folder;
+  opened = opened;
+  is_new = is_new;
+  placed = subst (λ (f : List ℕ). IsPlaced path f (image_bag image facts) (others_in folder opened) steps) (ap (λ (p : ShelfPlace). p.folder) place)
+      (subst (λ (others : List SystemStep). IsPlaced path now (image_bag image facts) others steps) (ap (λ (p : ShelfPlace). p.others) place)
+      (subst (λ (bag : List ShelfEntry). IsPlaced path now bag (others_in now filled) steps)
+      (whole image h facts tells ∙ ap (λ (xs : List ShelfEntry). xs ++ image_bag image facts) empty) is));
 }
 
 -- ---- a folder that did not get its place
@@ -45,9 +55,37 @@ stays_told words was is (inl same) told = subst (IsTakeFault words) (sym same) t
 stays_told words was is (inr none) told = subst (IsTakeFault words) (sym none) (inl (inr (inl (inr refl))))
 
 -- a bag that got no place is taken away
-pub bag_away : (path folder now : List ℕ) (fault : TakeFault) (old filled new : List SystemStep) → now ≡ folder → IsNewFolder path folder → IsAwayFor fault now filled new
-    → IsBagAway path fault old new
-bag_away path folder now fault old filled new same beside is = inr (now, filled, subst (IsNewFolder path) (sym same) beside, is)
+pub bag_away : (path folder now : List ℕ) (fault : TakeFault) (old opened filled new : List SystemStep) → shelf_place now filled ≡ shelf_place folder opened
+    → HasOpenedFolder path folder old opened → IsAwayFor fault now filled new → tells_there fault ≡ false → IsBagAway path fault old new
+bag_away path folder now fault old opened filled new place is_new away other = inr (record {
+  folder = folder;
+  opened = opened;
+  is_new = is_new;
+  filled = filled;
+  others = ap (λ (f : List ℕ). others_in f filled) (sym same) ∙ ap (λ (p : ShelfPlace). p.others) place;
+  away = subst (λ (f : List ℕ). IsAwayFor fault f filled new) same away;
+  other_fault = other;
+})
+  where
+    same : now ≡ folder
+    same = ap (λ (p : ShelfPlace). p.folder) place
+
+-- no such fault is that something is there
+pub shelf_other : (why : ShelfFault) (found : TakeFault) → found ≡ fault_of_shelf why → tells_there found ≡ false
+shelf_other (shelf.CannotWrite path) found is = ap tells_there is
+shelf_other shelf.NoMemory found is = ap tells_there is
+
+pub stays_other : (was is : TakeFault) → StaysOrNoMemory was is → tells_there was ≡ false → tells_there is ≡ false
+stays_other was is (inl same) other = ap tells_there same ∙ other
+stays_other was is (inr none) other = ap tells_there none
+
+pub bag_other : (fault : BagFault) (words : TakeWords) (found : TakeFault) → (fault ≡ bag.Source source.ReadFailed → found ≡ take.Image (CannotRead words.image))
+    → (fault ≡ bag.Source source.Memory → found ≡ take.Image NoMemory) → KeepsShelfFault fault found
+    → (fault ≡ bag.TooLarge → found ≡ take.Image (Refused mount.TooLarge)) → tells_there found ≡ false
+bag_other (bag.Source source.ReadFailed) words found read memory shelved large = ap tells_there (read refl)
+bag_other (bag.Source source.Memory) words found read memory shelved large = ap tells_there (memory refl)
+bag_other (bag.Shelf why) words found read memory shelved large = shelf_other why found (shelved why refl)
+bag_other bag.TooLarge words found read memory shelved large = ap tells_there (large refl)
 
 -- ---- behind a look
 

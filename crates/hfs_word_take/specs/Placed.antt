@@ -1,19 +1,23 @@
 -- A bag that has its place, or has none.
 use Rattle.std.specs.Borrow.{Bor}
-use Rattle.std.specs.Prelude.{◌≡◌, ◌⊎◌, ℕ, List, ◌∷◌, true, false}
+use Rattle.std.specs.Prelude.{◌≡◌, ◌⊎◌, ℕ, Bool, List, ◌∷◌, true, false}
 use Rattle.hfs_commands.specs.declared.fault.Fault.TheVariants.{NoMemory}
 use Rattle.hfs_bag.specs.Entries.{ShelfEntry}
-use Rattle.hfs_bag.specs.Removals.{HasNoNewFolder, HasSince, IsPlaced, IsTakenAway, RemovesIn}
-use Rattle.hfs_bag.specs.ShelfPaths.{IsNewFolder}
+use Rattle.hfs_bag.specs.Removals.{HasNoNewFolder, HasOpenedFolder, HasSince, IsPlaced, IsTakenAway, RemovesIn}
+use Rattle.hfs_bag.specs.ShelfPlaces.{others_in}
+use Rattle.hfs_bag.specs.declared.shelf_fault.ShelfFault.{ShelfFault}
 use Rattle.hfs_bag.specs.SystemSteps.{SystemStep, done, looked}
 use Rattle.hfs_word_take.specs.declared.fault.TakeFault.{TakeFault}
 use Rattle.hfs_word_take.specs.declared.fault.TakeFault.TheVariants as take
+use Rattle.hfs_word_take.specs.TakeFaults.{fault_of_shelf}
 
--- the last of these steps gave a folder this path in which exactly these entries were made, under a name of its own
-pub record HasPlaced (path : List ℕ) (bag : List ShelfEntry) (steps : List SystemStep) : Type 0 where
+-- after the old steps a folder was made under the first of its names that was free, exactly these entries were made in it, and the last
+-- step gave it this path; nothing else was made, opened, moved or removed since
+pub record HasPlaced (path : List ℕ) (bag : List ShelfEntry) (old steps : List SystemStep) : Type 0 where
   pub folder : List ℕ
-  pub beside : IsNewFolder path folder
-  pub placed : IsPlaced path folder bag steps
+  pub opened : List SystemStep
+  pub is_new : HasOpenedFolder path folder old opened
+  pub placed : IsPlaced path folder bag (others_in folder opened) steps
 
 -- the fault stayed, or memory was refused
 abbrev pub StaysOrNoMemory : TakeFault → TakeFault → Type 0
@@ -23,10 +27,27 @@ StaysOrNoMemory was is = (is ≡ was) ⊎ (is ≡ take.Image NoMemory)
 abbrev pub IsAwayFor : TakeFault → List ℕ → List SystemStep → List SystemStep → Type 0
 IsAwayFor fault folder old new = IsTakenAway folder old new ⊎ ((fault ≡ take.Image NoMemory) × HasSince (RemovesIn folder) old new)
 
--- no folder was made, or the one that was filled is taken away
+-- it is that something is there already
+abbrev pub tells_there : TakeFault → Bool
+tells_there (take.Image fault) = false
+tells_there (take.IsThere path) = true
+tells_there (take.CannotWrite path) = false
+
+-- after the old steps a folder was made under the first of its names that was free; while it was filled nothing else was made, opened, moved
+-- or removed; and it is taken away, for another fault than that something is there
+pub record IsFilledAway (path : List ℕ) (fault : TakeFault) (old new : List SystemStep) : Type 0 where
+  pub folder : List ℕ
+  pub opened : List SystemStep
+  pub is_new : HasOpenedFolder path folder old opened
+  pub filled : List SystemStep
+  pub others : others_in folder filled ≡ others_in folder opened
+  pub away : IsAwayFor fault folder filled new
+  pub other_fault : tells_there fault ≡ false
+
+-- no folder was made, for the shelf's fault, or the one that was filled is taken away
 abbrev pub IsBagAway : List ℕ → TakeFault → List SystemStep → List SystemStep → Type 0
 IsBagAway path fault old new =
-    HasNoNewFolder path old new ⊎ ((folder : List ℕ) × (filled : List SystemStep) × IsNewFolder path folder × IsAwayFor fault folder filled new)
+    ((why : ShelfFault) × (fault ≡ fault_of_shelf why) × HasNoNewFolder path why old new) ⊎ IsFilledAway path fault old new
 
 -- something has the folder's name, and nothing was done but to look; or nothing has it, and what was written is taken away
 abbrev pub IsBagUnplaced : Bor (List ℕ) → TakeFault → List SystemStep → List SystemStep → Type 0

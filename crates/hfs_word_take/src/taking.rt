@@ -1,16 +1,18 @@
 //! The word that takes the items off a disk.
-ghost use Rattle.std.specs.Prelude.{◌≡◌, IfErr, IfOk, string_bytes};
+ghost use Rattle.std.specs.Prelude.{◌≡◌, ◌∷◌, false, IfErr, IfOk, string_bytes};
 ghost use Rattle.std.specs.Option.{option_map};
 ghost use Rattle.hfs_bag.specs.Sums.{IsSumOf};
 ghost use Rattle.hfs_word_take.specs.Items.{bag_items, entries_in};
 ghost use Rattle.hfs_source.specs.Images.{OfEach};
 ghost use Rattle.hfs_bag.specs.MadeFolders.{given_by};
 ghost use Rattle.hfs_bag.specs.Removals.{IsPlaced};
+ghost use Rattle.hfs_bag.specs.ShelfPlaces.{others_in};
+ghost use Rattle.hfs_bag.specs.SystemSteps.{done, looked};
 ghost use Rattle.hfs_word_take.specs.Bags.{OfBag};
 ghost use Rattle.hfs_word_take.specs.Digests.{HoldsBoth};
 ghost use Rattle.hfs_word_take.specs.TakeFaults.{IsTakeFault, taken_text};
 ghost use Rattle.hfs_word_take.specs.Folders.{IsFolderPath};
-ghost use Rattle.hfs_word_take.specs.Placed.{HasPlaced, IsAwayFor, IsBagAway, IsBagUnplaced, StaysOrNoMemory};
+ghost use Rattle.hfs_word_take.specs.Placed.{HasPlaced, IsAwayFor, IsBagAway, IsBagUnplaced, StaysOrNoMemory, tells_there};
 
 use crate::fault::TakeFault;
 use crate::giving::{GivenBag, give_image};
@@ -59,8 +61,10 @@ fn place_bag<'a, Y: FileSystem + Drop>(
     words: &TakeWords<'a>,
 ) -> Result<Y, UnplacedBag<'a, Y>>
     ensures placed { IfOk result (λ system. IsPlaced words.now.folder.now (string_bytes shelf.folder)
-        (given_by (string_bytes shelf.folder) shelf.modified (Y.did shelf.system)) (Y.did system)) }
+        (given_by (string_bytes shelf.folder) shelf.modified (Y.did shelf.system))
+        (others_in (string_bytes shelf.folder) (Y.did shelf.system)) (Y.did system)) }
     ensures fault { IfErr result (λ back. IsTakeFault words.now back.fault) }
+    ensures other { IfErr result (λ back. tells_there back.fault ≡ false) }
     ensures away { IfErr result (λ back. IsAwayFor back.fault (string_bytes shelf.folder)
         (Y.did shelf.system) (Y.did back.system)) }
 {
@@ -107,7 +111,7 @@ fn write_bag<'a, Y: FileSystem + Drop, H: Threads, S: PlacedBlocks + Drop + Send
     ensures sums { IfOk result (λ placed. OfEach (S.Holds placed.image)
         (λ bytes. IsSumOf placed.sums (bag_items (entries_in bytes)))) }
     ensures placed { IfOk result (λ placed. OfEach (HoldsBoth S.Holds placed.image placed.beside)
-        (OfBag (option_map string_bytes image.volume) words.now (λ bag. HasPlaced words.now.folder.now bag (Y.did placed.system)))) }
+        (OfBag (option_map string_bytes image.volume) words.now (λ bag. HasPlaced words.now.folder.now bag (Y.did system) (Y.did placed.system)))) }
     ensures narrows { IfOk result (λ placed. OfEach (S.Holds placed.image) (S.Holds image.opened)) }
 {
     let mut shelf = match FileShelf::create(alloc, system, words.folder) {
@@ -158,7 +162,8 @@ pub fn take_opened<'a, Y: FileSystem + Drop, H: Threads, S: PlacedBlocks + Drop 
     ensures sums { IfOk result (λ placed. OfEach (S.Holds placed.image)
         (λ bytes. IsSumOf placed.sums (bag_items (entries_in bytes)))) }
     ensures placed { IfOk result (λ placed. OfEach (HoldsBoth S.Holds placed.image placed.beside)
-        (OfBag (option_map string_bytes image.volume) words.now (λ bag. HasPlaced words.now.folder.now bag (Y.did placed.system)))) }
+        (OfBag (option_map string_bytes image.volume) words.now (λ bag. HasPlaced words.now.folder.now bag
+        (done (looked words.now.folder.now false) ∷ Y.did system) (Y.did placed.system)))) }
     ensures narrows { IfOk result (λ placed. OfEach (S.Holds placed.image) (S.Holds image.opened)) }
 {
     let mut system = system;

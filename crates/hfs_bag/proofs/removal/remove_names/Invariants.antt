@@ -1,9 +1,15 @@
--- what was done since the beginning only removes in the folder; what is left is a text
+-- what is left to remove leads to what all names lead to; what is left is a text
 use denote.Text.{Utf8}
 use denote.Shadow.{shadow}
+use Rattle.std.proofs.Common.{◌≡◌, length}
+use Rattle.hfs_bag.specs.Listings.{ended_names, with_removals}
 use Rattle.hfs_bag.specs.Removals.{HasSince, RemovesIn}
 use Rattle.hfs_bag.proofs.removal.remove_names.Given as goal
 
-abbrev pub invariant-loop : goal.invariant-loop
-invariant-loop g l =
-    shadow (Utf8 l.rest) × HasSince (RemovesIn l.fn.folder) (g.Y.FileSystem.did l.fn.system) (g.Y.FileSystem.did l.system)
+abbrev pub invariant-loop-name : goal.invariant-loop-name
+invariant-loop-name g l =
+    shadow (Utf8 l.rest) × (with_removals l.fn.folder (ended_names l.rest) (g.Y.FileSystem.did l.system) ≡ with_removals l.fn.folder (ended_names l.fn.names) (g.Y.FileSystem.did l.fn.system))
+    × HasSince (RemovesIn l.fn.folder) (g.Y.FileSystem.did l.fn.system) (g.Y.FileSystem.did l.system)
+
+abbrev pub decreases-loop-name : goal.decreases-loop-name
+decreases-loop-name g l = length l.rest

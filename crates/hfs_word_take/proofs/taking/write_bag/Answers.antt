@@ -11,7 +11,7 @@ use Rattle.std.specs.Prelude.{string_bytes}
 use Rattle.hfs_bag.specs.Told.{TellsWithin}
 use Rattle.hfs_word_take.specs.TakeFaults.{IsFillFault}
 use Rattle.hfs_word_take.proofs.FaultLemmas.{of_bag, of_shelf, uncreated}
-use Rattle.hfs_word_take.proofs.PlacedBagLemmas.{bag_away, placed-bag, stays_told}
+use Rattle.hfs_word_take.proofs.PlacedBagLemmas.{bag_away, bag_other, placed-bag, stays_other, stays_told}
 use Rattle.hfs_bag.specs.MadeFolders.{given_by}
 use Rattle.hfs_word_take.proofs.taking.write_bag.Goals as goal
 
@@ -20,7 +20,7 @@ returns-in-Err-clause-fault g c =
     of_shelf c.args.words.now c.in-Err.back.fault c.of_shelf.result c.of_shelf.ensures (uncreated c.args.words.now.folder.now c.in-Err.back.fault c.in-Err.ensures.told)
 
 pub returns-in-Err-clause-away : goal.returns-in-Err-clause-away
-returns-in-Err-clause-away g c = inl c.in-Err.ensures.none
+returns-in-Err-clause-away g c = inl (c.in-Err.back.fault, c.of_shelf.ensures, c.in-Err.ensures.none)
 
 pub returns-in-Err-sums-clause-fault : goal.returns-in-Err-sums-clause-fault
 returns-in-Err-sums-clause-fault g c =
@@ -35,9 +35,10 @@ returns-in-Err-sums-clause-fault g c =
 pub returns-in-Err-sums-clause-away : goal.returns-in-Err-sums-clause-away
 returns-in-Err-sums-clause-away g c =
     let filled = c.give_image-sums.new.shelf in
+    let other = bag_other c.in-Err-sums.fault c.args.words.now c.of_bag-told.result c.of_bag-told.ensures.read c.of_bag-told.ensures.memory c.of_bag-told.ensures.shelf c.of_bag-told.ensures.large in
     bag_away c.args.words.now.folder.now (string_bytes {Z = Global} c.in-Ok.shelf.folder) (string_bytes {Z = Global} filled.folder) c.take_away.result.fault
-    (g.Y.FileSystem.did c.args.system) (g.Y.FileSystem.did filled.system) (g.Y.FileSystem.did c.take_away.result.system) c.give_image-sums.ensures.place
-    c.in-Ok.ensures.beside c.take_away.ensures.away
+    (g.Y.FileSystem.did c.args.system) (g.Y.FileSystem.did c.in-Ok.shelf.system) (g.Y.FileSystem.did filled.system) (g.Y.FileSystem.did c.take_away.result.system)
+    c.give_image-sums.ensures.place c.in-Ok.ensures.made c.take_away.ensures.away (stays_other c.of_bag-told.result c.take_away.result.fault c.take_away.ensures.fault other)
 
 pub returns-in-Ok-place_bag-clause-placed : goal.returns-in-Ok-place_bag-clause-placed
 returns-in-Ok-place_bag-clause-placed g c =
@@ -50,11 +51,12 @@ returns-in-Ok-place_bag-clause-placed g c =
     let whole = subst (λ (sums : Result BagSums BagFault). OnOk sums (OfEach Holds (OfBag line c.args.words.now (λ (bag : List ShelfEntry). given ≡ before ++ bag)))) c.in-Ok-sums.is
     c.give_image-sums.ensures.whole in
     placed-bag Holds line c.args.words.now c.args.words.now.folder.now (string_bytes {Z = Global} shelf.folder) (string_bytes {Z = Global} filled.folder) before given
-    (g.Y.FileSystem.did c.in-Ok-place_bag.system) c.in-Ok.ensures.empty c.give_image-sums.ensures.place c.in-Ok.ensures.beside whole c.in-Ok-place_bag.ensures.placed
+    (g.Y.FileSystem.did c.args.system) (g.Y.FileSystem.did shelf.system) (g.Y.FileSystem.did filled.system) (g.Y.FileSystem.did c.in-Ok-place_bag.system)
+    c.in-Ok.ensures.empty c.give_image-sums.ensures.place c.in-Ok.ensures.made whole c.in-Ok-place_bag.ensures.placed
 
 pub returns-in-Err-place_bag-clause-away : goal.returns-in-Err-place_bag-clause-away
 returns-in-Err-place_bag-clause-away g c =
     let filled = c.give_image-sums.new.shelf in
     bag_away c.args.words.now.folder.now (string_bytes {Z = Global} c.in-Ok.shelf.folder) (string_bytes {Z = Global} filled.folder) c.in-Err-place_bag.back.fault
-    (g.Y.FileSystem.did c.args.system) (g.Y.FileSystem.did filled.system) (g.Y.FileSystem.did c.in-Err-place_bag.back.system) c.give_image-sums.ensures.place
-    c.in-Ok.ensures.beside c.in-Err-place_bag.ensures.away
+    (g.Y.FileSystem.did c.args.system) (g.Y.FileSystem.did c.in-Ok.shelf.system) (g.Y.FileSystem.did filled.system) (g.Y.FileSystem.did c.in-Err-place_bag.back.system)
+    c.give_image-sums.ensures.place c.in-Ok.ensures.made c.in-Err-place_bag.ensures.away c.in-Err-place_bag.ensures.other
