@@ -1,5 +1,5 @@
 -- What an error of SQLite means.
-use Rattle.std.specs.Prelude.{◌≡◌, ◌⊎◌, ℕ, Bool, true, false, if◌then◌else◌, List, Ok, Err}
+use Rattle.std.specs.Prelude.{◌≡◌, ◌⊎◌, ⊤, ℕ, Bool, true, false, if◌then◌else◌, List, Ok, Err}
 use Rattle.sqlite.specs.declared.error.Error.{Error}
 use Rattle.sqlite.specs.declared.error.Error.TheVariants.{SqliteFailure}
 use Rattle.sqlite.specs.declared.error.ErrorCode.{ErrorCode}
@@ -39,6 +39,12 @@ opening_fault _ = CannotOpen obstacle.Unreadable
 -- its fault where a database is written, or what was written is read
 abbrev pub writing_fault : Error → DatabaseFault
 writing_fault error = if is_memory error then NoMemory else CannotWrite
+
+-- it is one of these, and not that the database can't be opened
+abbrev pub IsWritingFault : DatabaseFault → Type 0
+IsWritingFault (CannotOpen obstacle) = ⊥
+IsWritingFault CannotWrite = ⊤
+IsWritingFault NoMemory = ⊤
 
 -- its fault where a row is taken
 abbrev pub taking_fault : Error → TakerFault

@@ -103,6 +103,7 @@ pub(crate) fn opening_fault(error: &Error) -> DatabaseFault
 pub(crate) fn writing_fault(error: &Error) -> DatabaseFault
     ensures tables { TellsNoTables result }
     ensures fault { result ≡ spec.writing_fault error.now }
+    ensures writing { spec.IsWritingFault result }
 {
     if is_memory(error) {
         DatabaseFault::NoMemory

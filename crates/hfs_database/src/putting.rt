@@ -2,6 +2,7 @@
 ghost use Rattle.std.specs.Prelude.{◌≡◌, false, [], IfErr, IfOk, OnErr, OnOk};
 ghost use Rattle.sqlite.specs.Held.{state};
 ghost use Rattle.sqlite.specs.State.{Survives};
+ghost use Rattle.hfs_database.specs.Faults.{IsWritingFault};
 ghost use Rattle.hfs_database.specs.Transactions.{EndsAtSource, IsAsBefore, IsBegun, IsCommitted, IsSettled, IsSourceFault, IsUndone, KeepsAtSource, KeepsFile, LeavesAllOrNone, LeavesAsBefore, PutsAllInOne};
 
 use crate::RowSource;
@@ -17,6 +18,7 @@ fn begin<S: Alter>(conn: &mut Connection<S>) -> Result<(), DatabaseFault>
     ensures keeps { KeepsFile S.Store conn.old conn.new }
     ensures settled { OnOk result (IsSettled S.Store conn.old) }
     ensures back { OnErr result (IsAsBefore S.Store conn.old conn.new) }
+    ensures writing { IfErr result IsWritingFault }
 {
     if !conn.is_autocommit() {
         return Err(DatabaseFault::CannotWrite);
@@ -34,6 +36,7 @@ fn commit<S: Alter>(conn: &mut Connection<S>) -> Result<(), DatabaseFault>
     ensures leaves { Survives (state S.Store conn.old) (state S.Store conn.new)
         (λ db. db ≡ (state S.Store conn.old).now.trees) }
     ensures undone { OnErr result (IsUndone S.Store conn.old conn.new) }
+    ensures writing { IfErr result IsWritingFault }
 {
     if conn.is_autocommit() {
         return Err(DatabaseFault::CannotWrite);
@@ -51,6 +54,7 @@ fn undo<S: Alter>(conn: &mut Connection<S>) -> Result<(), DatabaseFault>
     ensures keeps { KeepsFile S.Store conn.old conn.new }
     ensures ended { OnOk result (conn.new.in_transaction ≡ false) }
     ensures undone { IsUndone S.Store conn.old conn.new }
+    ensures writing { IfErr result IsWritingFault }
 {
     if conn.is_autocommit() {
         return Ok(());

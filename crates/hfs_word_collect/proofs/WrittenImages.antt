@@ -1,8 +1,9 @@
 -- What is written of an image whose rows met a fault, or whose end did.
-use Rattle.std.proofs.Common.{◌≡◌, ◌∙◌, sym, ap, subst, ℕ, Bool, false, List, [], append-nil, length, take, Option, None, Result, Ok, Err, OnOk, OnErr}
+use Rattle.std.proofs.Common.{◌≡◌, ◌∙◌, sym, ap, subst, ℕ, Bool, false, List, [], append-nil, length, take, Option, Some, None, Result, Ok, Err, OnOk, OnErr}
 use Rattle.std.proofs.Math.Logic.{∥∥₁_map}
 use Rattle.std.proofs.lemmas.Option.{none-some}
 use lib.Seq.{take-append_seam}
+use Rattle.std.specs.Prelude.{IfSome}
 use Rattle.std.specs.Io.KnownBytes.{Appends}
 use Rattle.hfs_database.specs.Taken.{TakenRow, IsBeginning}
 use Rattle.hfs_word_collect.specs.declared.fault.CollectFault.{CollectFault}
@@ -13,7 +14,12 @@ use Rattle.hfs_database.specs.RowTexts.{image_text}
 use Rattle.hfs_database.specs.UnderWay.{WritesFront}
 use Rattle.hfs_word_collect.specs.declared.collect_fault.RunFault.{RunFault}
 use Rattle.hfs_word_collect.specs.declared.collect_fault.RunFault.TheVariants as run
-use Rattle.hfs_word_collect.specs.Answers.{image_fault}
+use Rattle.hfs_database.specs.Faults.{IsWritingFault}
+use Rattle.hfs_database.specs.declared.fault.DatabaseFault.{DatabaseFault}
+use Rattle.hfs_database.specs.declared.fault.DatabaseFault.TheVariants as database
+use Rattle.hfs_database.specs.declared.row_fault.TakerFault.{TakerFault}
+use Rattle.hfs_database.specs.declared.row_fault.TakerFault.TheVariants as taker
+use Rattle.hfs_word_collect.specs.Answers.{IsUnwritten, database_fault, image_fault, taker_fault}
 use Rattle.hfs_word_collect.specs.Writing.{WritesPart}
 
 -- the run goes on only where the image can't be read
@@ -52,3 +58,19 @@ module _ (start now mid : Option (List ℕ)) (form went : Form) (given all : Lis
 -- all rows are a beginning of them
 pub all_begin : (given all : List TakenRow) → given ≡ all → IsBeginning given all
 all_begin given all gave = record { rest = []; all_is = append-nil given ∙ gave }
+
+-- ---- the faults of a run that goes on no more
+
+pub unwritten_database : (why : DatabaseFault) (found : RunFault) → found ≡ database_fault why → IsWritingFault why → IsUnwritten found
+unwritten_database (database.CannotOpen obstacle) found same never = absurd never
+unwritten_database database.CannotWrite found same is = subst IsUnwritten (sym same) tt
+unwritten_database database.NoMemory found same is = subst IsUnwritten (sym same) tt
+
+pub unwritten_taker : (why : TakerFault) (found : RunFault) → found ≡ taker_fault why → IsUnwritten found
+unwritten_taker taker.CannotWrite found same = subst IsUnwritten (sym same) tt
+unwritten_taker taker.NoMemory found same = subst IsUnwritten (sym same) tt
+
+pub unwritten_image : (fault : CollectFault) (told : Option RunFault) (found : RunFault) → told ≡ image_fault fault → told ≡ Some found → IsUnwritten found
+unwritten_image ReadFailed told found is some = absurd (none-some found (sym is ∙ some))
+unwritten_image CannotWrite told found is some = subst (λ (o : Option RunFault). IfSome o IsUnwritten) (sym is ∙ some) tt
+unwritten_image NoMemory told found is some = subst (λ (o : Option RunFault). IfSome o IsUnwritten) (sym is ∙ some) tt

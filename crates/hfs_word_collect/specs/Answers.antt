@@ -1,5 +1,5 @@
 -- What faults mean for the run.
-use Rattle.std.specs.Prelude.{Option, Some, None}
+use Rattle.std.specs.Prelude.{⊤, Option, Some, None}
 use Rattle.hfs_database.specs.declared.row_fault.TakerFault.{TakerFault}
 use Rattle.hfs_database.specs.declared.row_fault.TakerFault.TheVariants as taker
 use Rattle.hfs_database.specs.declared.fault.DatabaseFault.{DatabaseFault}
@@ -8,6 +8,12 @@ use Rattle.hfs_word_collect.specs.declared.fault.CollectFault.{CollectFault}
 use Rattle.hfs_word_collect.specs.declared.fault.CollectFault.TheVariants as collect
 use Rattle.hfs_word_collect.specs.declared.collect_fault.RunFault.{RunFault}
 use Rattle.hfs_word_collect.specs.declared.collect_fault.RunFault.TheVariants as run
+
+-- something can't be written, or memory is refused; the database was opened
+abbrev pub IsUnwritten : RunFault → Type 0
+IsUnwritten (run.CannotOpen obstacle) = ⊥
+IsUnwritten run.CannotWrite = ⊤
+IsUnwritten run.NoMemory = ⊤
 
 -- where only the image can't be read, the run goes on
 abbrev pub image_fault : CollectFault → Option RunFault

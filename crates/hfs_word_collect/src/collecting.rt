@@ -4,6 +4,7 @@ ghost use Rattle.hfs_bag.specs.Failing.{SomeFailOf};
 ghost use Rattle.hfs_word_collect.specs.Counts.{image_counts};
 ghost use Rattle.hfs_word_collect.specs.Images.{image_rows};
 ghost use Rattle.hfs_word_collect.specs.Faults.{IsFaultOf};
+ghost use Rattle.hfs_word_collect.specs.Answers.{IsUnwritten};
 ghost use Rattle.hfs_word_collect.specs.Collecting.{AreRowsOf};
 ghost use Rattle.hfs_database.specs.Transactions.{LeavesAllOrNone, LeavesAsBefore, LeavesFile, PutsAllInOne};
 
@@ -64,7 +65,7 @@ impl<S: PlacedBytes + Drop, K: PickedImage, F: ImageFile<S, K>> RowSource
 /// holds. None if it can't be opened or not be read as far as needed: then nothing has changed, and no transaction is open. At a
 /// fault, the open database shows what it showed before; the file has all rows, or nothing in it has changed. Faults:
 /// `CannotWrite`, `NoMemory`.
-#[tactic(auto, using(crate::proofs::WrittenImages::unread_first, crate::proofs::WrittenImages::unread_second))]
+#[tactic(auto, using(crate::proofs::WrittenImages::unread_first, crate::proofs::WrittenImages::unread_second, crate::proofs::WrittenImages::unwritten_database, crate::proofs::WrittenImages::unwritten_image))]
 pub fn collect_image<D: Alter + Drop, S: PlacedBytes + Drop, K: PickedImage, F: ImageFile<S, K>>(
     collection: &mut Collection<D>,
     rows: &mut ImageRows<'_, S, K, F>,
@@ -85,6 +86,7 @@ pub fn collect_image<D: Alter + Drop, S: PlacedBytes + Drop, K: PickedImage, F: 
         (LeavesAsBefore D.Store collection.old.conn collection.new.conn)) }
     ensures undone { OnErr result
         (LeavesAsBefore D.Store collection.old.conn collection.new.conn) }
+    ensures fault { IfErr result IsUnwritten }
     ensures all_or_none { LeavesAllOrNone D.Store
         (AreRowsOf (F.Holds rows.new.file) K.image rows.old.facts.now)
         collection.old.conn collection.new.conn }

@@ -1,6 +1,7 @@
 //! An image's rows as text.
 ghost use Rattle.std.specs.Prelude.{◌≡◌, ◌++◌, length, IfNone, IfOk, IfSome, OnErr};
 ghost use Rattle.hfs_bag.specs.Failing.{SomeFailOf};
+ghost use Rattle.hfs_word_collect.specs.Answers.{IsUnwritten};
 ghost use Rattle.hfs_word_collect.specs.Counts.{image_counts};
 ghost use Rattle.hfs_word_collect.specs.Images.{image_rows};
 ghost use Rattle.hfs_word_collect.specs.Writing.{WritesPart, WritesSome, WritesWhole};
@@ -16,7 +17,7 @@ use std::io::Write;
 /// Writes the rows of an image, and its end, and returns how much the image holds if all of them came. None if they didn't,
 /// because the image can't be opened, or not be read as far as needed. At a fault, a beginning of this was written. Faults:
 /// `CannotWrite` of the writer, `NoMemory`.
-#[tactic(auto, using(crate::proofs::WrittenImages::unread_by))]
+#[tactic(auto, using(crate::proofs::WrittenImages::unread_by, crate::proofs::WrittenImages::unwritten_taker, crate::proofs::WrittenImages::unwritten_image))]
 pub fn write_image<W: Write + Drop, S: PlacedBytes + Drop, K: PickedImage, F: ImageFile<S, K>>(
     taker: &mut TextTaker<W>,
     rows: &mut ImageRows<'_, S, K, F>,
@@ -35,6 +36,7 @@ pub fn write_image<W: Write + Drop, S: PlacedBytes + Drop, K: PickedImage, F: Im
     ensures part { OnErr result (F.Holds rows.new.file K.image →
         WritesPart (W.contents taker.old.start.value) (W.contents taker.new.writer)
         taker.old.form (taker.old.given.rows ++ image_rows rows.old.facts.now K.image)) }
+    ensures fault { IfErr result IsUnwritten }
 {
     match give_image::<S, K, F, TextTaker<W>>(rows.alloc, taker, &mut rows.file, rows.facts) {
         Ok(counts) => {
