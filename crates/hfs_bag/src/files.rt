@@ -44,8 +44,6 @@ pub struct FileShelf<Y: FileSystem> {
     made: Option<String>,
     /// The time that this file gets when it is closed.
     pub modified: Option<u32>,
-    /// The folder, opened and never read: it holds a file descriptor, so that one is left for removing what was written.
-    kept: Option<Y::Names>,
 }
 
 /// Makes the folder in which a folder at this path is written, under the first name that the system gives it.
@@ -96,14 +94,14 @@ impl<Y: FileSystem> FileShelf<Y> {
             Ok(folder) => folder,
             Err(fault) => return Err(Unmade { system, fault }),
         };
-        match system.names(folder.as_str()) {
-            Ok(kept) => Ok(FileShelf {
+        // The folder stays open, so that a file descriptor is left for removing what is written.
+        match system.open_folder(folder.as_str()) {
+            Ok(()) => Ok(FileShelf {
                 alloc,
                 system,
                 folder,
                 made: None,
                 modified: None,
-                kept: Some(kept),
             }),
             Err(_) => {
                 let _removed = system.remove_folder(folder.as_str());
@@ -128,7 +126,6 @@ impl<Y: FileSystem> FileShelf<Y> {
     {
         let mut shelf = self;
         shelf.close();
-        shelf.kept = None;
         let FileShelf {
             alloc,
             mut system,
@@ -152,7 +149,6 @@ impl<Y: FileSystem> FileShelf<Y> {
     {
         let mut shelf = self;
         shelf.close();
-        shelf.kept = None;
         let FileShelf {
             alloc,
             mut system,

@@ -141,12 +141,12 @@ fn remove_to_folder<Y: FileSystem>(
         (HasEmptied folder.now (Y.did system.old) (Y.did system.new))
         (Y.did system.old) (Y.did system.new) }
 {
-    let Ok(mut names) = system.names(folder) else {
+    let Ok(()) = system.open_folder(folder) else {
         return Ok(Tried::Gone);
     };
     let mut bytes = [0; NAMES];
     for _ in 0..u64::MAX {
-        let Ok(count) = system.read_names(&mut names, &mut bytes) else {
+        let Ok(count) = system.read_names(&mut bytes) else {
             return Ok(Tried::Gone);
         };
         let read = &bytes[..count];

@@ -1,5 +1,5 @@
 //! What a shelf of files asks of the system.
-ghost use Rattle.std.specs.Prelude.{◌≡◌, ◌≤◌, ◌∷◌, [], List, length, take, IfOk, MatchResult};
+ghost use Rattle.std.specs.Prelude.{◌≡◌, ◌<◌, ◌≤◌, ◌∷◌, [], List, length, take, IfOk, MatchResult};
 ghost use Rattle.std.specs.Time.{system_time_nanos};
 ghost use Rattle.hfs_bag.specs.SystemSteps.{Does, SystemStep, made_folder, opened, wrote, timed, closed, moved, removed_folder, looked, listed, named, done, failed, makes_file};
 ghost use Rattle.hfs_bag.specs.FileRemovals.{removal_of};
@@ -21,9 +21,6 @@ pub enum Removal {
 /// A file system. Contracts see it as the list of what was asked of it and what came of each, last first.
 pub trait FileSystem {
     ghost did: { Self → List SystemStep };
-
-    /// A folder that is open, and the names in it.
-    type Names: Drop;
 
     /// Makes a folder, if nothing has its path.
     fn make_folder(&mut self, path: &str) -> io::Result<()>
@@ -59,13 +56,14 @@ pub trait FileSystem {
     fn remove_folder(&mut self, path: &str) -> io::Result<()>
         ensures { Does result (removed_folder path.now) (did self.old) (did self.new) };
 
-    /// Opens a folder, for the names of what is in it.
-    fn names(&mut self, folder: &str) -> io::Result<Self::Names>
+    /// Opens a folder, for the names of what is in it, and closes the one that was opened last.
+    fn open_folder(&mut self, folder: &str) -> io::Result<()>
         ensures { Does result (listed folder.now) (did self.old) (did self.new) };
 
     /// Reads more names of the folder that was opened last, each ended by a zero byte, and returns how many bytes these are; none
     /// at their end.
-    fn read_names(&mut self, names: &mut Self::Names, into: &mut [u8]) -> io::Result<usize>
+    fn read_names(&mut self, into: &mut [u8]) -> io::Result<usize>
+        requires { 0 < length into.old }
         ensures within { IfOk result (λ count. count ≤ length into.new) }
         ensures read { MatchResult result
             (λ count. did self.new ≡ done (named (take count into.new)) ∷ did self.old)

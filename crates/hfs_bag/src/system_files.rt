@@ -16,6 +16,7 @@ use std::{fs, io};
 pub struct SystemFiles<'a, R: Files> {
     rt: &'a R,
     file: Option<R::File>,
+    folder: Option<R::Dir>,
     log: SystemLog,
 }
 
@@ -27,6 +28,7 @@ impl<'a, R: Files> SystemFiles<'a, R> {
         SystemFiles {
             rt,
             file: None,
+            folder: None,
             log: SystemLog::new(),
         }
     }
@@ -44,15 +46,13 @@ fn noted<T>(log: &SystemLog, step: &Step<'_>, came: &io::Result<T>) -> SystemLog
     }
 }
 
-/// No file is open.
+/// No file or folder is open.
 fn none_open() -> io::Error {
     io::Error::from(ErrorKind::NotFound)
 }
 
 impl<R: Files> FileSystem for SystemFiles<'_, R> {
     ghost did = { λ system. system.log.steps };
-
-    type Names = R::Dir;
 
     fn make_folder(&mut self, path: &str) -> io::Result<()> {
         let came = fs::create_dir(self.rt, path);
@@ -129,14 +129,20 @@ impl<R: Files> FileSystem for SystemFiles<'_, R> {
         came
     }
 
-    fn names(&mut self, folder: &str) -> io::Result<R::Dir> {
+    fn open_folder(&mut self, folder: &str) -> io::Result<()> {
+        self.folder = None;
         let came = self.rt.open_dir(folder);
         self.log = noted(&self.log, &Step::Listed(folder), &came);
-        came
+        self.folder = Some(came?);
+        Ok(())
     }
 
-    fn read_names(&mut self, names: &mut R::Dir, into: &mut [u8]) -> io::Result<usize> {
-        match names.read(into) {
+    fn read_names(&mut self, into: &mut [u8]) -> io::Result<usize> {
+        let came = match &mut self.folder {
+            Some(folder) => folder.read(into),
+            None => Err(none_open()),
+        };
+        match came {
             Ok(count) => {
                 let count = count.min(into.len());
                 self.log = self.log.then(&Step::Named(&into[..count]));
