@@ -11,11 +11,8 @@ use Rattle.hfs_commands.specs.declared.fault.Fault.TheVariants.{CannotRead, NoMe
 use Rattle.hfs_commands.specs.Faults.{IsUnopened, KeepsRefusal}
 use Rattle.hfs_image.specs.declared.opening.NeededFault.{NeededFault}
 use Rattle.hfs_image.specs.declared.opening.NeededFault.TheVariants as needed
-use Rattle.hfs_image.specs.Failing.{SomeReadFails}
-use Rattle.hfs_image.specs.Seen.{IsRefusedBy}
 use Rattle.hfs_source.specs.declared.fetching.SparseFault.{SparseFault}
 use Rattle.hfs_source.specs.declared.fetching.SparseFault.TheVariants as sparse
-use Rattle.hfs_source.specs.Images.{OfEach}
 use Rattle.hfs_bag.specs.declared.shelf_fault.ShelfFault.{ShelfFault}
 use Rattle.hfs_bag.specs.declared.shelf_fault.ShelfFault.TheVariants as shelf
 use Rattle.hfs_bag.specs.ShelfPaths.{IsNewFolder}
@@ -23,7 +20,7 @@ use Rattle.hfs_bag.specs.Told.{Tells, TellsNewFolder, TellsWithin}
 use Rattle.hfs_word_take.specs.declared.fault.TakeFault.{TakeFault}
 use Rattle.hfs_word_take.specs.declared.fault.TakeFault.TheVariants as take
 use Rattle.hfs_word_take.specs.declared.words.TakeWords.{TakeWords}
-use Rattle.hfs_word_take.specs.TakeFaults.{IsImageFault, IsTakeFault, IsReadFault, IsUntaken, IsUnwritten, KeepsShelfFault, fault_of_shelf, needed_fault}
+use Rattle.hfs_word_take.specs.TakeFaults.{IsImageFault, IsTakeFault, IsReadFault, IsUnwritten, KeepsShelfFault, fault_of_shelf, needed_fault}
 
 unread : (words : TakeWords) (found : Fault) → found ≡ CannotRead words.image → IsImageFault words found
 unread words found is = inl (inl is)
@@ -38,21 +35,12 @@ told_needed path needed.ReadFailed found read memory refused = read refl
 told_needed path needed.Memory found read memory refused = memory refl
 told_needed path (needed.Refused why) found read memory refused = refused why refl
 
-pub untaken : (path : Bor (List ℕ)) (Held : List ℕ → Type 0) (Fails : ℕ → ℕ → Type 0) (Holds : List ℕ → Type 0) (why : NeededFault) (found : Fault) → found ≡ needed_fault path why
-    → OfEach Holds (IsRefusedBy why) → (why ≡ needed.ReadFailed → SomeReadFails Held Fails) → IsUntaken path Held Fails Holds found
-untaken path Held Fails Holds why found told refused failed = record { why = why; told = told; refused = refused; failed = failed }
+pub of_needed : (words : TakeWords) (why : NeededFault) (found : Fault) → found ≡ needed_fault words.image why → IsImageFault words found
+of_needed words needed.ReadFailed found told = unread words found told
+of_needed words needed.Memory found told = unstored words found told
+of_needed words (needed.Refused why) found told = inr (why, told)
 
--- names these words' image, or refuses it
-by_reason : (words : TakeWords) (why : NeededFault) (found : Fault) → found ≡ needed_fault words.image why → IsImageFault words found
-by_reason words needed.ReadFailed found told = unread words found told
-by_reason words needed.Memory found told = unstored words found told
-by_reason words (needed.Refused why) found told = inr (why, told)
-
-pub of_untaken : (words : TakeWords) (Held : List ℕ → Type 0) (Fails : ℕ → ℕ → Type 0) (Holds : List ℕ → Type 0) (found : Fault)
-    → IsUntaken words.image Held Fails Holds found → IsImageFault words found
-of_untaken words Held Fails Holds found is = by_reason words is.why found is.told
-
--- what was read of a file, or its fault
+-- what is told of a read that failed
 pub read_fault : (path : Bor (List ℕ)) (why : SparseFault) (found : Fault) → (why ≡ sparse.ReadFailed → found ≡ CannotRead path) → (why ≡ sparse.Memory → found ≡ NoMemory)
     → IsReadFault path found
 read_fault path sparse.ReadFailed found read memory = inl (read refl)

@@ -266,7 +266,7 @@ struct Untaken<'a, S: PlacedBlocks> {
 
 /// Why an image in the file at this path isn't taken, given why it was not opened.
 #[tactic(auto, using(crate::proofs::FaultLemmas::told_needed))]
-fn untaken<'a, S: PlacedBlocks>(back: Unopened<S>, path: &'a str) -> Untaken<'a, S>
+fn of_unopened<'a, S: PlacedBlocks>(back: Unopened<S>, path: &'a str) -> Untaken<'a, S>
     ensures fault { result.fault ≡ needed_fault path.entry back.fault }
     ensures source { result.source ≡ back.source }
 {
@@ -278,7 +278,6 @@ fn untaken<'a, S: PlacedBlocks>(back: Unopened<S>, path: &'a str) -> Untaken<'a,
 
 /// Opens what was found of an image, which has `len` bytes if it has no fault, and makes all checks. Faults, with what they hold
 /// of handed back: a read failed; the first of every image consistent with the bytes read; memory was refused.
-#[tactic(auto, using(crate::proofs::FaultLemmas::untaken))]
 fn open_found<'a, S: PlacedBlocks + Drop>(
     alloc: Global,
     source: SeenBlocks<S>,
@@ -316,7 +315,7 @@ fn open_found<'a, S: PlacedBlocks + Drop>(
                 volume,
             })
         }
-        Err(back) => Err(untaken(back, words.image)),
+        Err(back) => Err(of_unopened(back, words.image)),
     }
 }
 
@@ -333,7 +332,6 @@ type PlacedPart<F> = BlocksOf<RangeBytes<OpenedFile<F>>>;
 /// Opens what is to be taken, twice if its digest is to be made at the same time, and makes all checks. Faults, the first that
 /// holds: the image can't be read; `NoVolume`, `SeveralVolumes`; the image's own, which is `Short` if the range doesn't lie in its
 /// file; memory was refused.
-#[tactic(auto, using(crate::proofs::PartLines::length_if_sound, crate::proofs::FaultLemmas::of_untaken))]
 pub(crate) fn open_image<'a, R: Files + AllocGlobal>(
     rt: &R,
     words: &TakeWords<'a>,
