@@ -20,7 +20,7 @@ use Rattle.hfs_bag.specs.Told.{Tells, TellsNewFolder, TellsWithin}
 use Rattle.hfs_word_take.specs.declared.fault.TakeFault.{TakeFault}
 use Rattle.hfs_word_take.specs.declared.fault.TakeFault.TheVariants as take
 use Rattle.hfs_word_take.specs.declared.words.TakeWords.{TakeWords}
-use Rattle.hfs_word_take.specs.TakeFaults.{IsImageFault, IsTakeFault, IsReadFault, IsUnwritten, KeepsShelfFault, fault_of_shelf, needed_fault}
+use Rattle.hfs_word_take.specs.TakeFaults.{IsImageFault, IsReadFault, IsTakeFault, IsUnwritten, KeepsShelfFault, fault_of_shelf, needed_fault}
 
 unread : (words : TakeWords) (found : Fault) → found ≡ CannotRead words.image → IsImageFault words found
 unread words found is = inl (inl is)
