@@ -1,5 +1,6 @@
 -- Faults of what is taken apart name what its words name.
-use Rattle.std.proofs.Common.{◌≡◌, ℕ, List, refl, sym, subst, inl, inr}
+use Rattle.std.proofs.Common.{◌≡◌, ℕ, List, Option, refl, sym, subst, inl, inr}
+use Rattle.std.specs.Borrow.{Bor}
 use Rattle.std.specs.Prelude.{⊤, string_bytes}
 use Rattle.hfs_bag.specs.declared.fault.BagFault.{BagFault}
 use Rattle.hfs_bag.specs.declared.fault.BagFault.TheVariants as bag
@@ -7,9 +8,11 @@ use Rattle.hfs_bag.specs.declared.source.SourceFault.TheVariants as source
 use Rattle.hfs_check.specs.declared.mount_fault.MountFault.TheVariants as mount
 use Rattle.hfs_commands.specs.declared.fault.Fault.{Fault}
 use Rattle.hfs_commands.specs.declared.fault.Fault.TheVariants.{CannotRead, NoMemory, Refused}
-use Rattle.hfs_commands.specs.Faults.{KeepsRefusal}
+use Rattle.hfs_commands.specs.Faults.{IsUnopened, KeepsRefusal}
 use Rattle.hfs_image.specs.declared.opening.NeededFault.{NeededFault}
 use Rattle.hfs_image.specs.declared.opening.NeededFault.TheVariants as needed
+use Rattle.hfs_source.specs.declared.fetching.SparseFault.{SparseFault}
+use Rattle.hfs_source.specs.declared.fetching.SparseFault.TheVariants as sparse
 use Rattle.hfs_bag.specs.declared.shelf_fault.ShelfFault.{ShelfFault}
 use Rattle.hfs_bag.specs.declared.shelf_fault.ShelfFault.TheVariants as shelf
 use Rattle.hfs_bag.specs.ShelfPaths.{IsNewFolder}
@@ -17,7 +20,7 @@ use Rattle.hfs_bag.specs.Told.{Tells, TellsNewFolder, TellsWithin}
 use Rattle.hfs_word_take.specs.declared.fault.TakeFault.{TakeFault}
 use Rattle.hfs_word_take.specs.declared.fault.TakeFault.TheVariants as take
 use Rattle.hfs_word_take.specs.declared.words.TakeWords.{TakeWords}
-use Rattle.hfs_word_take.specs.TakeFaults.{IsImageFault, IsTakeFault, IsUnwritten, KeepsShelfFault, fault_of_shelf}
+use Rattle.hfs_word_take.specs.TakeFaults.{IsImageFault, IsReadFault, IsTakeFault, IsUnwritten, KeepsShelfFault, fault_of_shelf, needed_fault}
 
 unread : (words : TakeWords) (found : Fault) → found ≡ CannotRead words.image → IsImageFault words found
 unread words found is = inl (inl is)
@@ -25,12 +28,27 @@ unread words found is = inl (inl is)
 unstored : (words : TakeWords) (found : Fault) → found ≡ NoMemory → IsImageFault words found
 unstored words found is = inl (inr (inl (inr is)))
 
--- a volume that was not opened
-pub of_needed : (words : TakeWords) (why : NeededFault) (found : Fault) → (why ≡ needed.ReadFailed → found ≡ CannotRead words.image) → (why ≡ needed.Memory → found ≡ NoMemory)
-    → KeepsRefusal why found → IsImageFault words found
-of_needed words needed.ReadFailed found read memory refused = unread words found (read refl)
-of_needed words needed.Memory found read memory refused = unstored words found (memory refl)
-of_needed words (needed.Refused why) found read memory refused = inr (why, refused why refl)
+-- what is told of an image that was not opened
+pub told_needed : (path : Bor (List ℕ)) (why : NeededFault) (found : Fault) → (why ≡ needed.ReadFailed → found ≡ CannotRead path) → (why ≡ needed.Memory → found ≡ NoMemory)
+    → KeepsRefusal why found → found ≡ needed_fault path why
+told_needed path needed.ReadFailed found read memory refused = read refl
+told_needed path needed.Memory found read memory refused = memory refl
+told_needed path (needed.Refused why) found read memory refused = refused why refl
+
+pub of_needed : (words : TakeWords) (why : NeededFault) (found : Fault) → found ≡ needed_fault words.image why → IsImageFault words found
+of_needed words needed.ReadFailed found told = unread words found told
+of_needed words needed.Memory found told = unstored words found told
+of_needed words (needed.Refused why) found told = inr (why, told)
+
+-- what is told of a read that failed
+pub read_fault : (path : Bor (List ℕ)) (why : SparseFault) (found : Fault) → (why ≡ sparse.ReadFailed → found ≡ CannotRead path) → (why ≡ sparse.Memory → found ≡ NoMemory)
+    → IsReadFault path found
+read_fault path sparse.ReadFailed found read memory = inl (read refl)
+read_fault path sparse.Memory found read memory = inr (memory refl)
+
+pub unopened : (path : Bor (List ℕ)) (volume : Option ℕ) (found : Fault) → IsReadFault path found → IsUnopened path volume found
+unopened path volume found (inl read) = inl read
+unopened path volume found (inr memory) = inr (inl (inr memory))
 
 -- a fault that is known is one of those of these words
 known : (words : TakeWords) (found is : TakeFault) → found ≡ is → IsTakeFault words is → IsTakeFault words found

@@ -1,5 +1,8 @@
 -- The line of what was asked for.
-use Rattle.std.proofs.Common.{◌≡◌, ◌∙◌, ℕ, Bool, List, [], length, take, drop, Option, None, Some, ap, sym, subst, inl, inr}
+use Rattle.std.proofs.Common.{◌≡◌, ◌∙◌, ℕ, ◌+◌, ◌≤◌, Bool, List, [], length, take, drop, Option, None, Some, refl, ap, sym, subst, inl, inr, arith, length-take, length-drop}
+use Rattle.std.proofs.lemmas.Option.{none-some}
+use Rattle.hfs_check.specs.declared.mount_fault.MountFault.TheVariants.{Short}
+use Rattle.hfs_check.specs.Faults.{fault_of, length_fault}
 use Rattle.hfs_commands.specs.Parts.{IsRangeAt, asked_at}
 use Rattle.hfs_source.specs.Asking.{IsAnswerTo}
 use Rattle.hfs_source.specs.declared.asking.NumberedRange.{NumberedRange}
@@ -8,7 +11,7 @@ use Rattle.hfs_commands.specs.SeenFiles.{IsPartOf}
 use Rattle.hfs_source.specs.Ranges.{bytes_in}
 use Rattle.hfs_source.specs.Sums.{sum_told}
 use Rattle.hfs_source.specs.Images.{HasLength, IsRangeOf, OfEach}
-use Rattle.hfs_word_take.specs.Opening.{IsLineAt, IsLineOf, IsLineWith, IsSumAt, IsSumIn, IsToldPart, TellsSum, TellsSumIn}
+use Rattle.hfs_word_take.specs.Opening.{HasLengthIfSound, IsLineAt, IsLineOf, IsLineWith, IsSumAt, IsSumIn, IsToldPart, TellsSum, TellsSumIn}
 
 at-range : (AreOthers : ℕ → Type 0) (Names : List ℕ → Type 0) (range : ByteRange) (place : Option NumberedRange) (line : Option (List ℕ)) (sum : Option Bool) → IsRangeAt place range
     → IsToldPart AreOthers Names place line sum → IsLineAt range place line
@@ -68,3 +71,26 @@ module _ (Holds Parts : List ℕ → Type 0) (range : ByteRange) (start count : 
     line_is = tells.line_is;
     sum_is = in-part tells.place line sum tells.line_is tells.sum_is;
   }
+
+-- ---- how long what was opened is
+
+-- what has no bytes is too short
+short : (image : List ℕ) → image ≡ [] → fault_of image ≡ Some Short
+unfolding fault_of length_fault
+short image empty = subst (λ (bytes : List ℕ). fault_of bytes ≡ Some Short) (sym empty) refl
+
+-- the part of a file has the bytes of the range, or has none and is refused
+pub length_if_sound : (Holds : List ℕ → Type 0) (range : ByteRange) (start count : ℕ) → IsPartOf Holds range start count
+    → OfEach (IsRangeOf Holds start count) (HasLengthIfSound range.len)
+length_if_sound Holds range start count at = λ part is sound.
+    let of = is.2 in
+    elim at [
+      | inl there ↦
+          let lies : start + count ≤ length is.0 = of.inside in
+          let cut : length part ≡ length (take count (drop start is.0)) = ap length of.bytes in
+          let len : count ≡ range.len = there.1 in
+          omega (arith, lies, cut, len, length-take count (drop start is.0), length-drop start is.0)
+      | inr none ↦
+          let empty : part ≡ [] = of.bytes ∙ ap (λ (n : ℕ). take n (drop start is.0)) none.1 in
+          absurd (none-some Short (sym sound ∙ short part empty))
+    ]

@@ -15,7 +15,7 @@ use Rattle.hfs_word_take.specs.Items.{bag_item, bag_items, entries_in}
 abbrev pub AreNamed : Volume → Type 0
 AreNamed v = (id : ℕ) (i : Item) → Has v.items id i → IsTrue (is_bytes i.name)
 
--- the items of a lawful volume have plain names and paths of their own, also without regard to case
+-- the items of a lawful volume have plain names and paths of their own, also without regard to the case of ASCII letters
 abbrev pub ItemsArePlaced : Type 0
 ItemsArePlaced = (v : Volume) → IsLawful v → AreNamed v → ArePlaced (bag_items (entries_of v))
 

@@ -9,7 +9,8 @@ use Rattle.hfs_source.specs.Ranges.{bytes_in, volume_name_in}
 use Rattle.hfs_source.specs.Sums.{sum_told}
 use Rattle.hfs_source.specs.declared.asking.NumberedRange.{NumberedRange}
 use Rattle.hfs_source.specs.declared.ranges.ByteRange.{ByteRange}
-use Rattle.hfs_source.specs.Images.{OfEach}
+use Rattle.hfs_image.specs.Seen.{HasNoFault}
+use Rattle.hfs_source.specs.Images.{HasLength, OfEach}
 use Rattle.hfs_source.specs.declared.blocks.BlocksOf.{BlocksOf}
 use Rattle.hfs_source.specs.declared.range.RangeBytes.{RangeBytes}
 use Rattle.hfs_source.specs.declared.seen_blocks.SeenBlocks.{SeenBlocks}
@@ -80,3 +81,7 @@ pub record TellsSumIn (Parts : List ℕ → Type 0) (volume : Option ℕ) (len :
 -- these blocks of a file are that range of it, or there are none, where no file that has the bytes which were read has all of the range
 abbrev pub AreBlocksAt : {F : Type 0} → ByteRange → SeenBlocks (BlocksOf (RangeBytes (OpenedFile F))) → Type 0
 AreBlocksAt range part = IsPartOf (images_of part.blocks.bytes.bytes) range part.blocks.bytes.start part.blocks.bytes.len
+
+-- the image has so many bytes if it has no fault
+abbrev pub HasLengthIfSound : ℕ → List ℕ → Type 0
+HasLengthIfSound len image = HasNoFault image → HasLength len image

@@ -1,4 +1,5 @@
 -- What is printed of a disk that was taken apart, or was not.
+use Rattle.std.specs.Borrow.{Bor}
 use Rattle.std.specs.Prelude.{◌≡◌, ◌⊎◌, ⊤, ℕ, List, ◌++◌, codes, string_bytes}
 use Rattle.std.specs.Fmt.{decimal}
 use Rattle.hfs_bag.specs.declared.fault.BagFault.{BagFault}
@@ -7,12 +8,16 @@ use Rattle.hfs_bag.specs.Bags.{bytes_in, payload}
 use Rattle.hfs_bag.specs.Faults.{AreTooMany, IsBagFault}
 use Rattle.hfs_bag.specs.declared.sums.BagSums.{BagSums}
 use Rattle.hfs_commands.specs.declared.fault.Fault.{Fault}
-use Rattle.hfs_commands.specs.declared.fault.Fault.TheVariants.{NoMemory, Refused}
+use Rattle.hfs_commands.specs.declared.fault.Fault.TheVariants.{CannotRead, NoMemory, Refused}
 use Rattle.hfs_commands.specs.declared.fault.Status.{Status}
 use Rattle.hfs_commands.specs.declared.fault.Status.TheVariants.{DeviceFailed}
 use Rattle.hfs_check.specs.declared.mount_fault.MountFault.{MountFault}
 use Rattle.hfs_commands.specs.Faults.{IsUnopened, fault_text, status_of}
 use Rattle.hfs_commands.specs.Paths.{path_text}
+use Rattle.hfs_image.specs.declared.opening.NeededFault.{NeededFault}
+use Rattle.hfs_image.specs.declared.opening.NeededFault.TheVariants as needed
+use Rattle.hfs_image.specs.Failing.{SomeReadFails}
+use Rattle.hfs_image.specs.Seen.{IsRefusedBy}
 use Rattle.hfs_word_take.specs.Items.{bag_items, entries_in}
 use Rattle.hfs_source.specs.Images.{OfEach}
 use Rattle.hfs_bag.specs.declared.shelf_fault.ShelfFault.{ShelfFault}
@@ -36,9 +41,31 @@ take_status (take.Image fault) = status_of fault
 take_status (take.IsThere path) = DeviceFailed
 take_status (take.CannotWrite path) = DeviceFailed
 
+-- ---- the opening
+
+-- a read of the file at this path failed, or memory was refused
+abbrev pub IsReadFault : Bor (List ℕ) → Fault → Type 0
+IsReadFault path why = (why ≡ CannotRead path) ⊎ (why ≡ NoMemory)
+
+-- what is told of the file at this path, where an image in it was not opened
+abbrev pub needed_fault : Bor (List ℕ) → NeededFault → Fault
+needed_fault path needed.ReadFailed = CannotRead path
+needed_fault path needed.Memory = NoMemory
+needed_fault path (needed.Refused why) = Refused why
+
+-- an image in the file at this path was not opened, and the fault is what is told of that: each image that holds is refused for this first fault of it, or
+-- a read failed of bytes that each image has which held before, or memory was refused
+pub record IsUntaken (path : Bor (List ℕ)) (Held : List ℕ → Type 0) (Fails : ℕ → ℕ → Type 0) (Holds : List ℕ → Type 0) (fault : Fault) : Type 0 where
+  pub why : NeededFault
+  pub told : fault ≡ needed_fault path why
+  pub refused : OfEach Holds (IsRefusedBy why)
+  pub failed : why ≡ needed.ReadFailed → SomeReadFails Held Fails
+
 -- what is to be taken apart was not opened, or it is refused
 abbrev pub IsImageFault : TakeWords → Fault → Type 0
 IsImageFault words why = IsUnopened words.image words.volume why ⊎ ((refusal : MountFault) × (why ≡ Refused refusal))
+
+-- ---- what is written
 
 -- this is the path of a folder, or of one of the hundred in which it may be written, or of what lies in that one
 abbrev pub IsUnwritten : List ℕ → List ℕ → Type 0

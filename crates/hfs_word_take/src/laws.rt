@@ -1,7 +1,8 @@
 //! What holds for the definitions, each law as the contract of a function that does nothing.
 ghost use Rattle.hfs_word_take.specs.Laws.{BagPathsAreTold, ItemsArePlaced, SoundItemsArePlaced, SoundPathsAreTold};
 
-/// The items of a lawful volume have plain names and paths of their own, even ignoring case: no path leads out of the bag.
+/// The items of a lawful volume have plain names and paths of their own, even ignoring the case of ASCII letters: no path leads
+/// out of the bag.
 pub fn items_are_placed()
     ensures { ItemsArePlaced }
 {}

@@ -1,24 +1,25 @@
 //! Opening what is to be taken, by its path.
-ghost use Rattle.std.specs.Prelude.{◌≡◌, IfErr, IfOk, IfSome, None, string_bytes};
+ghost use Rattle.std.specs.Prelude.{◌≡◌, Err, IfErr, IfOk, IfSome, None, Ok, string_bytes};
 ghost use Rattle.std.specs.Option.{option_map};
-ghost use Rattle.hfs_commands.specs.Faults.{IsUnopened, IsUnreadFile};
+ghost use Rattle.hfs_commands.specs.Faults.{IsUnopened};
 ghost use Rattle.hfs_commands.specs.OpenedFiles.{AreHeldOthers, held_bytes, images_of, stored_bytes};
 ghost use Rattle.hfs_commands.specs.SeenFiles.{parts_of};
 ghost use Rattle.hfs_image.specs.Seen.{HasNoFault};
 ghost use Rattle.hfs_source.specs.Images.{OfEach};
-ghost use Rattle.hfs_word_take.specs.TakeFaults.{IsImageFault};
-ghost use Rattle.hfs_word_take.specs.Opening.{AreBlocksAt, IsLineOf, IsSumAt, IsToldLine, IsToldPart, TellsSum, TellsSumIn, TellsVolume};
+ghost use Rattle.hfs_word_take.specs.TakeFaults.{IsImageFault, IsReadFault, IsUntaken, needed_fault};
+ghost use Rattle.hfs_word_take.specs.Opening.{AreBlocksAt, HasLengthIfSound, IsLineOf, IsSumAt, IsToldLine, IsToldPart, TellsSum, TellsSumIn, TellsVolume};
 
 use crate::facts::volume_text;
 use crate::image::TakenImage;
 use crate::words::TakeWords;
-use hfs_check::MountFault;
 use hfs_commands::{
     Counted, Fault, FilePart, NumberedRange, OpenedFile, PartBlocks, StoredFile, UserData, Window,
     open_asked, part_blocks,
 };
 use hfs_image::Unopened;
-use hfs_source::{BlocksOf, ByteRange, PlacedBlocks, RangeBytes, sum_told, volume_name};
+use hfs_source::{
+    BlocksOf, ByteRange, PlacedBlocks, RangeBytes, SeenBlocks, SparseFault, sum_told, volume_name,
+};
 use std::alloc::Global;
 use std::fs::{File, Metadata, OpenFile};
 use std::io::{Read, Seek};
@@ -36,6 +37,21 @@ pub struct FoundPart<F: Read + Seek> {
     pub sum: Option<bool>,
 }
 
+/// What was read of the file at this path, or the fault that is told of it.
+#[tactic(auto, using(crate::proofs::FaultLemmas::read_fault))]
+fn told_read<'a, T>(read: Result<T, SparseFault>, path: &'a str) -> Result<T, Fault<'a>>
+    ensures read { IfOk result (λ found. read ≡ Ok found) }
+    ensures failed { read ≡ Err SparseFault.ReadFailed
+        → result ≡ Err (Fault.CannotRead path.entry) }
+    ensures memory { read ≡ Err SparseFault.Memory → result ≡ Err Fault.NoMemory }
+    ensures fault { IfErr result (IsReadFault path.entry) }
+{
+    match read {
+        Ok(found) => Ok(found),
+        Err(fault) => Err(Fault::of_sparse(fault, path)),
+    }
+}
+
 /// The line of a range of a file, and whether its sum is right, if it has one, which takes reading all its bytes. Each raw sector
 /// is looked at. Faults: a read failed, memory was refused.
 fn line_of<'a, F: Read + Seek>(
@@ -46,20 +62,11 @@ fn line_of<'a, F: Read + Seek>(
 ) -> Result<(String, Option<bool>), Fault<'a>>
     ensures line { IfOk result (λ told. IsToldLine (AreHeldOthers file.old) (images_of file.new) place.now (string_bytes told.0) told.1) }
     ensures sum { IfOk result (λ told. IsSumAt (images_of file.new) (Some place.now) told.1) }
-    ensures fault { IfErr result (IsUnreadFile path.entry) }
+    ensures fault { IfErr result (IsReadFault path.entry) }
 {
-    let others = match file.others() {
-        Ok(others) => others,
-        Err(fault) => return Err(Fault::of_sparse(fault, path)),
-    };
-    let name = match volume_name(file, place.found.range) {
-        Ok(name) => name,
-        Err(fault) => return Err(Fault::of_sparse(fault, path)),
-    };
-    let sum = match sum_told(file, &place.found) {
-        Ok(sum) => sum,
-        Err(fault) => return Err(Fault::of_sparse(fault, path)),
-    };
+    let others = told_read(file.others(), path)?;
+    let name = told_read(volume_name(file, place.found.range), path)?;
+    let sum = told_read(sum_told(file, &place.found), path)?;
     match volume_text(alloc, place.number, &place.found, &name, sum, others) {
         Ok(line) => Ok((line, sum)),
         Err(_) => Err(Fault::NoMemory),
@@ -76,7 +83,7 @@ fn told_part<'a, F: Read + Seek + Drop>(
     ensures line { IfOk result (λ found. IsToldPart (AreHeldOthers part.bytes.source) (images_of found.bytes.source) part.place
         (option_map string_bytes found.line) found.sum) }
     ensures sum { IfOk result (λ found. IsSumAt (images_of found.bytes.source) part.place found.sum) }
-    ensures fault { IfErr result (IsUnreadFile path.entry) }
+    ensures fault { IfErr result (IsReadFault path.entry) }
 {
     let FilePart { mut bytes, place } = part;
     let Some(place) = place else {
@@ -96,7 +103,7 @@ fn told_part<'a, F: Read + Seek + Drop>(
 
 /// What is asked for of an image, given the number of a volume in it or none, as [`open_asked`] opens it, and its line. Faults:
 /// as for [`open_asked`].
-#[tactic(auto, using(crate::proofs::PartLines::line_of_part, crate::proofs::PartLines::sum_of_part))]
+#[tactic(auto, using(crate::proofs::PartLines::line_of_part, crate::proofs::PartLines::sum_of_part, crate::proofs::FaultLemmas::unopened))]
 pub fn find_part<'a, R: Files + AllocGlobal>(
     rt: &R,
     path: &'a str,
@@ -250,6 +257,68 @@ fn find_blocks<'a, R: Files + AllocGlobal>(
     })
 }
 
+/// Why what was found of an image isn't taken, and what was read of it.
+#[derive(Drop)]
+struct Untaken<'a, S: PlacedBlocks> {
+    fault: Fault<'a>,
+    source: SeenBlocks<S>,
+}
+
+/// Why an image in the file at this path isn't taken, given why it was not opened.
+#[tactic(auto, using(crate::proofs::FaultLemmas::told_needed))]
+fn of_unopened<'a, S: PlacedBlocks>(back: Unopened<S>, path: &'a str) -> Untaken<'a, S>
+    ensures fault { result.fault ≡ needed_fault path.entry back.fault }
+    ensures source { result.source ≡ back.source }
+{
+    Untaken {
+        fault: Fault::of_needed(back.fault, path),
+        source: back.source,
+    }
+}
+
+/// Opens what was found of an image, which has `len` bytes if it has no fault, and makes all checks. Faults, with what they hold
+/// of handed back: a read failed; the first of every image consistent with the bytes read; memory was refused.
+fn open_found<'a, S: PlacedBlocks + Drop>(
+    alloc: Global,
+    source: SeenBlocks<S>,
+    beside: Option<SeenBlocks<S>>,
+    line: Option<String>,
+    len: u64,
+    words: &TakeWords<'a>,
+) -> Result<TakenImage<S>, Untaken<'a, S>>
+    requires { OfEach (S.Holds source.blocks) (HasLengthIfSound len) }
+    ensures len { IfOk result (λ image. image.len ≡ len) }
+    ensures line { IfOk result (λ image. image.volume ≡ line) }
+    ensures beside { IfOk result (λ image. image.beside ≡ beside) }
+    ensures sound { IfOk result (λ image. OfEach (S.Holds image.opened) HasNoFault) }
+    ensures narrows { IfOk result (λ image. OfEach (S.Holds image.opened)
+        (S.Holds source.blocks)) }
+    ensures told { IfErr result (λ back. IsUntaken words.now.image (S.Holds source.blocks)
+        (S.Fails source.blocks) (S.Holds back.source.blocks) back.fault) }
+    ensures back { IfErr result (λ back. OfEach (S.Holds back.source.blocks)
+        (S.Holds source.blocks)) }
+{
+    match TakenImage::open(alloc, source, beside, line) {
+        Ok(image) => {
+            let TakenImage {
+                opened,
+                beside,
+                len: _,
+                report,
+                volume,
+            } = image;
+            Ok(TakenImage {
+                opened,
+                beside,
+                len,
+                report,
+                volume,
+            })
+        }
+        Err(back) => Err(of_unopened(back, words.image)),
+    }
+}
+
 /// What is to be taken and, if it lies in a disk copy, whether that one's sum is right.
 #[derive(Drop)]
 pub(crate) struct OpenedTake<S: PlacedBlocks> {
@@ -261,7 +330,8 @@ pub(crate) struct OpenedTake<S: PlacedBlocks> {
 type PlacedPart<F> = BlocksOf<RangeBytes<OpenedFile<F>>>;
 
 /// Opens what is to be taken, twice if its digest is to be made at the same time, and makes all checks. Faults, the first that
-/// holds: the image can't be read; `NoVolume`, `SeveralVolumes`; the image's own; memory was refused.
+/// holds: the image can't be read; `NoVolume`, `SeveralVolumes`; the image's own, which is `Short` if the range doesn't lie in its
+/// file; memory was refused.
 pub(crate) fn open_image<'a, R: Files + AllocGlobal>(
     rt: &R,
     words: &TakeWords<'a>,
@@ -280,14 +350,8 @@ pub(crate) fn open_image<'a, R: Files + AllocGlobal>(
         line,
         sum,
     } = find_blocks(rt, words)?;
-    match TakenImage::open(rt.alloc(), source, beside, line) {
-        Ok(image) => {
-            if image.len != range.len {
-                // A range that doesn't lie in its file has no bytes, and was refused.
-                return Err(Fault::Refused(MountFault::Short));
-            }
-            Ok(OpenedTake { image, sum })
-        }
-        Err(Unopened { fault, source: _ }) => Err(Fault::of_needed(fault, words.image)),
+    match open_found(rt.alloc(), source, beside, line, range.len, words) {
+        Ok(image) => Ok(OpenedTake { image, sum }),
+        Err(Untaken { fault, source: _ }) => Err(fault),
     }
 }

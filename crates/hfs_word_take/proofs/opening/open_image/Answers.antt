@@ -5,12 +5,19 @@ use Rattle.hfs_commands.specs.OpenedFiles.{images_of}
 use Rattle.hfs_commands.specs.SeenFiles.{parts_of}
 use Rattle.hfs_word_take.specs.Opening.{TellsSumIn}
 use Rattle.hfs_word_take.proofs.FaultLemmas.{of_needed}
-use Rattle.hfs_word_take.proofs.PartLines.{sum_in_part}
+use Rattle.hfs_word_take.proofs.PartLines.{length_if_sound, sum_in_part}
 use Rattle.hfs_word_take.proofs.opening.open_image.Goals as goal
+
+pub open_found-requires : goal.open_found-requires
+open_found-requires g c =
+    let found = c.in_ok-source.field-0 in
+    let part = found.source.blocks.bytes in
+    length_if_sound (images_of part.bytes) found.range part.start part.len c.in_ok-source.ensures.part
 
 pub returns-clause-fault : goal.returns-clause-fault
 returns-clause-fault g c =
-    of_needed c.args.words.now c.in-Err.field-0.fault c.of_needed.result c.of_needed.ensures.read c.of_needed.ensures.memory c.of_needed.ensures.refused
+    let is = c.in-Err.ensures.told in
+    of_needed c.args.words.now is.why c.in-Err.field-0.fault is.told
 
 pub returns-in-Ok-clause-sum : goal.returns-in-Ok-clause-sum
 returns-in-Ok-clause-sum g c =
