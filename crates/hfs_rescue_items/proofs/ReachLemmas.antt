@@ -28,11 +28,6 @@ run_behind (Some n) next left len rest is few less reach =
     let own : n + len / 512 + rest / 512 < 2 ^ 32 = omega (arith, reach, few, less) in
     subst (λ (o : Option ℕ). IsRunInReach o rest) (sym is) own
 
--- so are some of its bytes
-pub run_less : (first : Option ℕ) (left len : ℕ) → len ≤ left → IsRunInReach first left → IsRunInReach first len
-run_less None left len less reach = tt
-run_less (Some n) left len less reach = omega (arith, less, reach)
-
 -- ---- blocks
 
 -- the bytes of a block are in reach if it is
@@ -42,16 +37,6 @@ place_reach mdb None first count is fits reach = subst (λ (o : Option ℕ). IsR
 place_reach mdb (Some b) first count is fits reach =
     let own : start_of mdb b + count / 512 < 2 ^ 32 = omega (arith, fits, reach, add-mul b 1 (blocks_each mdb)) in
     subst (λ (o : Option ℕ). IsRunInReach o count) (sym is) own
-
--- a block that begins behind all blocks is not in reach
-pub far_begins : (mdb : Mdb) (place : Option ℕ) (b start : ℕ) → place ≡ Some b → start ≡ start_of mdb b → 2 ^ 32 ≤ start → IsInReach mdb place → ⊥
-far_begins mdb place b start is at far reach =
-    let own : start_of mdb (b + 1) < 2 ^ 32 = subst (IsInReach mdb) is reach in
-    omega (arith, own, at, far, add-mul b 1 (blocks_each mdb))
-
--- nor is a run that ends there
-pub far_ends : (first : Option ℕ) (n len : ℕ) → first ≡ Some n → (n + len / 512 < 2 ^ 32 → ⊥) → IsRunInReach first len → ⊥
-far_ends first n len is far reach = far (subst (λ (o : Option ℕ). IsRunInReach o len) is reach)
 
 -- ---- forks
 
@@ -67,9 +52,9 @@ module _ (total : ℕ) (mdb : Mdb) (few : total < 2 ^ 32) where
       by false t is = tt
 
   mapped-reach : (bs : List ℕ) → AreInReach mdb (map (there total mdb) bs)
-  mapped-reach [] i none within = absurd (omega (arith, within))
-  mapped-reach (b ∷ bs) zero none within = there-reach b
-  mapped-reach (b ∷ bs) (suc i) none within = mapped-reach bs i none (omega (arith, within))
+  mapped-reach [] i d within = absurd (omega (arith, within))
+  mapped-reach (b ∷ bs) zero d within = there-reach b
+  mapped-reach (b ∷ bs) (suc i) d within = mapped-reach bs i d (omega (arith, within))
 
   fork-reach : (records : Overflow) (fork : Fork) → AreInReach mdb (fork_places total records mdb fork)
   unfolding fork_places
@@ -80,12 +65,12 @@ module _ (total : ℕ) (mdb : Mdb) (few : total < 2 ^ 32) where
     where
       by : (t : Bool) → AreInReach mdb (if t then fork_places total records mdb share.fork else [])
       by true = fork-reach records share.fork
-      by false = λ i none within. absurd (omega (arith, within))
+      by false = λ i d within. absurd (omega (arith, within))
 
 -- the blocks of a fork that is found
 pub fork_reach : (found : Found) (kind : ForkKind) (i : ℕ) → found.mdb.now ≡ found.salvage.now.trees.mdb.now → (r : Option FoundFork)
     → FindsFork found.salvage.now i kind r → IfSome r (IsForkInReach found)
-fork_reach found kind i same None none = tt
+fork_reach found kind i same None finds = tt
 fork_reach found kind i same (Some fork) finds = λ few. by few (shares_at found.salvage.now i) finds
   where
     by : found.salvage.now.trees.total < 2 ^ 32 → (o : Option FileShares) → IsSomeAnd o (IsForkOf found.salvage.now kind fork)
