@@ -13,7 +13,7 @@ use Rattle.hfs_rescue_items.specs.Found.{path_at}
 use Rattle.hfs_rescue_items.specs.Plan.{last_part, makes_folder, of_kind, own_kind, path_of, whole_plan}
 use Rattle.hfs_rescue_items.specs.Sources.{planned_item}
 
--- what a plan makes has plain names and paths of its own, also without regard to case
+-- what a plan makes has plain names and paths of its own, also without regard to the case of ASCII letters
 abbrev pub PlansArePlaced : Type 0
 PlansArePlaced =
     (image : List ℕ) (found : Found) (records : List FoundRecord) → found.places.now ≡ things_of (map thing_of found.items.now) (namings_of records) → AreThings found.places.now

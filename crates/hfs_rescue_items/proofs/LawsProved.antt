@@ -15,7 +15,7 @@ use Rattle.hfs_rescue_items.proofs.PlacedLemmas.{plan_placed}
 use Rattle.hfs_rescue_items.proofs.PlanSumLemmas.{plan_counts}
 
 -- The law of plans: what a plan makes of the items among records, and of the folders that records name, has plain names and paths of its own,
--- also without regard to case.
+-- also without regard to the case of ASCII letters.
 pub plans_are_placed : PlansArePlaced
 plans_are_placed image found records places are = plan_placed found records places are image
 

@@ -20,3 +20,4 @@ pub mod WritingLemmas
 pub mod GatherLemmas
 mod WrittenForkLemmas
 mod FirstLemmas
+pub mod ReachLemmas

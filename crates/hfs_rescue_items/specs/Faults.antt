@@ -1,10 +1,14 @@
 -- Which faults what remains gives as the source of a bag.
-use Rattle.std.specs.Prelude.{◌≡◌, ◌⊎◌, ⊤, ℕ, ◌-◌, ◌<◌, ◌≤◌, List, drop, length, slice_get, take, Some}
+use Rattle.std.specs.Prelude.{◌≡◌, ◌⊎◌, ⊤, ℕ, ◌+◌, ◌-◌, ◌/◌, ◌^◌, ◌<◌, ◌≤◌, List, drop, length, slice_get, slice_index_or, take, Option, None, Some}
 use Rattle.std.specs.Str.{IsUtf8}
 use Rattle.hfs_bag.specs.declared.source.SourceFault.{SourceFault}
 use Rattle.hfs_bag.specs.declared.source.SourceFault.TheVariants.{Memory}
 use Rattle.hfs_bag.specs.declared.source.Stream.{Stream}
 use Rattle.hfs_bag.specs.declared.source.Stream.TheVariants as stream
+use Rattle.hfs_fields.specs.declared.mdb.Mdb.{Mdb}
+use Rattle.hfs_remains.specs.Allocation.{start_of}
+use Rattle.hfs_remains.specs.TreeFiles.{FileBlocks}
+use Rattle.hfs_remains_forks.specs.declared.findings.FoundFork.{FoundFork}
 use Rattle.hfs_rescue_items.specs.declared.found.Found.{Found}
 use Rattle.hfs_rescue_items.specs.declared.plan.Planned.{Planned}
 use Rattle.hfs_rescue_items.specs.declared.reading.Reading.{Reading}
@@ -36,12 +40,36 @@ FailsToCome found part fault =
 abbrev pub FailsToComeAt : Found → List Planned → ℕ → SourceFault → Type 0
 FailsToComeAt found plan next fault = (part : Planned) × (slice_get plan next ≡ Some part) × FailsToCome found part fault
 
--- memory was refused for a table; a fork may also lie behind all that can be read
-abbrev pub FailsToOpen : Stream → SourceFault → Type 0
-FailsToOpen stream.DataFork fault = ⊤
-FailsToOpen stream.ResourceFork fault = ⊤
-FailsToOpen stream.Table fault = WantsMemory fault
-FailsToOpen stream.Remains fault = WantsMemory fault
+-- ---- forks that are begun
+
+-- an allocation block ends among the first 2^32 logical blocks, which are those that a read can name; one that is missing isn't read
+abbrev pub IsInReach : Mdb → Option ℕ → Type 0
+IsInReach mdb None = ⊤
+IsInReach mdb (Some b) = start_of mdb (b + 1) < 2 ^ 32
+
+-- so do all blocks of a file
+abbrev pub AreInReach : Mdb → FileBlocks → Type 0
+AreInReach mdb places = (i : ℕ) (none : Option ℕ) → i < length places → IsInReach mdb (slice_index_or places i none)
+
+-- so do these bytes, from a logical block on
+abbrev pub IsRunInReach : Option ℕ → ℕ → Type 0
+IsRunInReach None count = ⊤
+IsRunInReach (Some n) count = n + count / 512 < 2 ^ 32
+
+-- of an image of fewer than 2^32 logical blocks the blocks of a fork are in reach
+abbrev pub IsForkInReach : Found → FoundFork → Type 0
+IsForkInReach found fork = found.salvage.now.trees.total < 2 ^ 32 → AreInReach found.mdb.now fork.places.items
+
+-- memory was refused for a fork, if its image has fewer than 2^32 logical blocks
+abbrev pub FailsToOpenFork : Found → SourceFault → Type 0
+FailsToOpenFork found fault = found.salvage.now.trees.total < 2 ^ 32 → WantsMemory fault
+
+-- memory was refused for a stream
+abbrev pub FailsToOpen : Found → Stream → SourceFault → Type 0
+FailsToOpen found stream.DataFork fault = FailsToOpenFork found fault
+FailsToOpen found stream.ResourceFork fault = FailsToOpenFork found fault
+FailsToOpen found stream.Table fault = WantsMemory fault
+FailsToOpen found stream.Remains fault = WantsMemory fault
 
 -- a fork fails only where bytes of it are left; for a table memory was refused
 abbrev pub FailsToRead : Reading → SourceFault → Type 0

@@ -1,8 +1,8 @@
 //! What a plan gives.
-ghost use Rattle.std.specs.Prelude.{◌≡◌, ◌-◌, ℕ, List, [], drop, length, take, IfErr, IfOk, string_bytes};
+ghost use Rattle.std.specs.Prelude.{◌≡◌, ◌-◌, ℕ, List, [], drop, length, take, IfErr, IfOk, IfSome, string_bytes};
 ghost use Rattle.hfs_bag.specs.Items.{IsHead};
 ghost use Rattle.hfs_rescue_items.specs.Bytes.{GivesBytes};
-ghost use Rattle.hfs_rescue_items.specs.Faults.{FailsToCome, IsUntold};
+ghost use Rattle.hfs_rescue_items.specs.Faults.{FailsToCome, IsForkInReach, IsUntold};
 ghost use Rattle.hfs_rescue_items.specs.Sources.{above_of, finder_told, is_alone, modified_told, name_of, part_bytes, part_told, planned_item};
 
 use crate::found::Found;
@@ -73,8 +73,9 @@ pub(crate) fn part_fork(
     planned: Planned,
     kind: ForkKind,
 ) -> Result<Option<FoundFork>, AllocError>
-    ensures { (image : List ℕ) → IfOk result (GivesBytes image found.now
+    ensures bytes { (image : List ℕ) → IfOk result (GivesBytes image found.now
         (part_bytes image found.now kind planned)) }
+    ensures reach { IfOk result (λ fork. IfSome fork (IsForkInReach found.now)) }
 {
     if is_alone(planned.kind) {
         return Ok(None);

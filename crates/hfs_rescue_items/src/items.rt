@@ -2,7 +2,7 @@
 ghost use Rattle.std.specs.Prelude.{◌≡◌, ◌+◌, ◌-◌, ⊤, ℕ, List, length, IfErr, IfOk, MatchResult, OnOk};
 ghost use Rattle.hfs_bag.specs.Sources.{HasOpened, HasRead, HasRestarted, IsFewer, TakesItem};
 ghost use Rattle.hfs_source.specs.Images.{OfEach};
-ghost use Rattle.hfs_rescue_items.specs.Faults.{FailsToComeAt, FailsToOpen, FailsToRead, Never};
+ghost use Rattle.hfs_rescue_items.specs.Faults.{FailsToComeAt, FailsToOpen, FailsToOpenFork, FailsToRead, Never};
 ghost use Rattle.hfs_rescue_items.specs.Plan.{whole_plan};
 ghost use Rattle.hfs_rescue_items.specs.Reading.{reading_left, reading_rest};
 ghost use Rattle.hfs_rescue_items.specs.Sources.{part_bytes, part_stream, source_of};
@@ -34,7 +34,7 @@ pub struct RescueItems<'a, S: BlockSource> {
     reading: Reading<'a>,
 }
 
-/// A fork of the item of a part of a plan, to be read from its first byte.
+/// A fork of the item of a part of a plan, to be read from its first byte. Error: memory was refused.
 #[tactic(auto, using(crate::proofs::SourceLemmas::fork_begun, crate::proofs::SourceLemmas::none_begun))]
 fn open_fork<'a>(
     alloc: Global,
@@ -42,8 +42,9 @@ fn open_fork<'a>(
     planned: Planned,
     kind: ForkKind,
 ) -> Result<Reading<'a>, SourceFault>
-    ensures { (image : List ℕ) → IfOk result (λ reading. reading_rest image found.now reading
+    ensures begun { (image : List ℕ) → IfOk result (λ reading. reading_rest image found.now reading
         ≡ part_bytes image found.now kind planned) }
+    ensures fault { IfErr result (FailsToOpenFork found.now) }
 {
     let Ok(part) = part_fork(alloc, found, planned, kind) else {
         return Err(SourceFault::Memory);
@@ -68,7 +69,7 @@ fn all_lines<'a>(found: &Found<'a>) -> Lines<'a>
     }
 }
 
-/// A stream of what a part of a plan gives, to be read from its first byte.
+/// A stream of what a part of a plan gives, to be read from its first byte. Error: memory was refused.
 #[tactic(auto, using(crate::proofs::SourceLemmas::table_begun, crate::proofs::SourceLemmas::remains_begun))]
 fn open_stream<'a>(
     alloc: Global,
@@ -78,7 +79,7 @@ fn open_stream<'a>(
 ) -> Result<Reading<'a>, SourceFault>
     ensures begun { (image : List ℕ) → IfOk result (λ reading. reading_rest image found.now reading
         ≡ part_stream image found.now planned stream) }
-    ensures fault { IfErr result (FailsToOpen stream) }
+    ensures fault { IfErr result (FailsToOpen found.now stream) }
 {
     match stream {
         Stream::DataFork => open_fork(alloc, found, planned, ForkKind::Data),
@@ -191,7 +192,7 @@ impl<S: BlockSource> BagSource for RescueItems<'_, S> {
         ensures stays { length self.new.plan.items - self.new.next
             ≡ length self.old.plan.items - self.old.next }
         ensures narrows { OfEach (S.Holds self.new.source) (S.Holds self.old.source) }
-        ensures fault { IfErr result (FailsToOpen stream) }
+        ensures fault { IfErr result (FailsToOpen self.old.found stream) }
     {
         self.reading = open_stream(self.alloc, &self.found, self.came.planned, stream)?;
         Ok(())

@@ -1,7 +1,8 @@
 //! Looking up what was found of an image.
-ghost use Rattle.std.specs.Prelude.{◌≡◌, ℕ, List, IfOk, string_bytes};
+ghost use Rattle.std.specs.Prelude.{◌≡◌, ℕ, List, IfOk, IfSome, string_bytes};
 ghost use Rattle.hfs_remains_forks.specs.Verdicts.{FindsFork, verdicts_at};
 ghost use Rattle.hfs_rescue_items.specs.Bytes.{GivesBytes, taken_bytes};
+ghost use Rattle.hfs_rescue_items.specs.Faults.{IsForkInReach};
 ghost use Rattle.hfs_remains_places.specs.Names.{names_by};
 ghost use Rattle.hfs_rescue_items.specs.Found.{field_name, names_at, path_at, told_at};
 
@@ -81,7 +82,7 @@ impl Found<'_> {
     }
 
     /// A fork of an item; None for a folder, and if there is no such item. Fails only when out of memory.
-    #[tactic(auto, using(crate::proofs::ForkLemmas::gives_bytes, crate::proofs::ForkLemmas::past_bytes))]
+    #[tactic(auto, using(crate::proofs::ForkLemmas::gives_bytes, crate::proofs::ForkLemmas::past_bytes, crate::proofs::ReachLemmas::fork_reach))]
     pub fn fork(
         &self,
         alloc: Global,
@@ -91,6 +92,7 @@ impl Found<'_> {
         ensures found { IfOk result (FindsFork self.now.salvage.now i kind) }
         ensures bytes { (image : List ℕ) → IfOk result (GivesBytes image self.now
             (taken_bytes image self.now kind i)) }
+        ensures reach { IfOk result (λ fork. IfSome fork (IsForkInReach self.now)) }
     {
         if i >= self.salvage.len() {
             return Ok(None);

@@ -1,10 +1,11 @@
 //! The bytes of a fork in pieces, each of which is read at once.
-ghost use Rattle.std.specs.Prelude.{◌≡◌, ◌+◌, ◌*◌, ◌≤◌, ◌++◌, ℕ, List, take, true, IfOk, IfSome, OnOk};
+ghost use Rattle.std.specs.Prelude.{◌≡◌, ◌+◌, ◌*◌, ◌/◌, ◌≤◌, ◌++◌, ℕ, List, take, true, IfErr, IfOk, IfSome, OnOk};
 ghost use Rattle.std.specs.Option.{option_map};
 ghost use Rattle.hfs_remains.specs.Allocation.{start_of};
 ghost use Rattle.hfs_remains_forks.specs.ForkBytes.{fork_bytes, place_bytes};
 ghost use Rattle.hfs_bag.specs.Forks.{first_bytes, piece_bytes, pieces_bytes};
 ghost use Rattle.hfs_rescue_items.specs.Bytes.{GoesOn};
+ghost use Rattle.hfs_rescue_items.specs.Faults.{AreInReach, IsInReach, IsRunInReach, WantsMemory};
 
 use hfs_bag::{Piece, SourceFault};
 use hfs_fields::Mdb;
@@ -77,7 +78,9 @@ fn push_part(pieces: &mut Vec<Piece>, first: Option<u32>, len: u32) -> Result<()
 #[tactic(auto, using(crate::proofs::PieceLemmas::missing_goes_on, crate::proofs::PieceLemmas::block_goes_on))]
 fn first_behind(first: Option<u32>, len: u32) -> Result<Option<u32>, SourceFault>
     requires { len ≤ 65536 }
-    ensures { len ≡ 65536 → IfOk result (GoesOn first len) }
+    ensures goes_on { len ≡ 65536 → IfOk result (GoesOn first len) }
+    ensures next { IfOk result (λ next. next ≡ option_map (λ n. n + len / 512) first) }
+    ensures fault { IfErr result (λ fault. IsRunInReach first len → WantsMemory fault) }
 {
     let Some(block) = first else {
         return Ok(None);
@@ -88,10 +91,12 @@ fn first_behind(first: Option<u32>, len: u32) -> Result<Option<u32>, SourceFault
     }
 }
 
-/// Appends bytes that begin in this logical block, or are missing.
+/// Appends bytes that begin in this logical block, or are missing. Errors: memory was refused; they lead past the last block that
+/// can be read.
 fn push_run(pieces: &mut Vec<Piece>, first: Option<u32>, count: u32) -> Result<(), SourceFault>
-    ensures { (image : List ℕ) → OnOk result (pieces_bytes true image pieces.new.items
+    ensures bytes { (image : List ℕ) → OnOk result (pieces_bytes true image pieces.new.items
         ≡ pieces_bytes true image pieces.old.items ++ first_bytes true image first count) }
+    ensures fault { IfErr result (λ fault. IsRunInReach first count → WantsMemory fault) }
 {
     let mut next = first;
     let mut left = count;
@@ -109,17 +114,18 @@ fn push_run(pieces: &mut Vec<Piece>, first: Option<u32>, count: u32) -> Result<(
 
 /// The logical block in which an allocation block begins; None if it is missing. Error: there is no such block.
 fn first_of(mdb: &Mdb, place: Option<u16>) -> Result<Option<u32>, SourceFault>
-    ensures { IfOk result (λ first. first ≡ option_map (start_of mdb.now) place) }
+    ensures first { IfOk result (λ first. first ≡ option_map (start_of mdb.now) place) }
+    ensures fault { IfErr result (λ fault. IsInReach mdb.now place → WantsMemory fault) }
 {
     let Some(block) = place else {
         return Ok(None);
     };
     let each = u64::from(mdb.allocation_block_size / 512);
     let start = u64::from(mdb.allocation_start) + u64::from(block) * each;
-    match u32::try_from(start) {
-        Ok(first) => Ok(Some(first)),
-        Err(_) => Err(SourceFault::ReadFailed),
+    if start > u64::from(u32::MAX) {
+        return Err(SourceFault::ReadFailed);
     }
+    Ok(Some(start as u32))
 }
 
 /// Appends the first bytes of the block at a place of a fork.
@@ -130,8 +136,9 @@ fn push_place(
     count: u32,
 ) -> Result<(), SourceFault>
     requires { count ≤ mdb.now.allocation_block_size }
-    ensures { (image : List ℕ) → OnOk result (pieces_bytes true image pieces.new.items
+    ensures bytes { (image : List ℕ) → OnOk result (pieces_bytes true image pieces.new.items
         ≡ pieces_bytes true image pieces.old.items ++ take count (place_bytes image mdb.now place)) }
+    ensures fault { IfErr result (λ fault. IsInReach mdb.now place → WantsMemory fault) }
 {
     let first = first_of(mdb, place)?;
     push_run(pieces, first, count)
@@ -146,8 +153,9 @@ pub(crate) fn pieces_of(
     places: &[Option<u16>],
     length: u32,
 ) -> Result<Vec<Piece>, SourceFault>
-    ensures { (image : List ℕ) → IfOk result (λ pieces. pieces_bytes true image pieces.items
+    ensures bytes { (image : List ℕ) → IfOk result (λ pieces. pieces_bytes true image pieces.items
         ≡ fork_bytes image mdb.now length places.now) }
+    ensures fault { IfErr result (λ fault. AreInReach mdb.now places.now → WantsMemory fault) }
 {
     let mut pieces = Vec::new(alloc);
     let mut left = length;

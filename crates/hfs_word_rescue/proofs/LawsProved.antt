@@ -29,11 +29,11 @@ are-things image mdb bytes None there is = cc
 are-things image mdb bytes (Some n) there is =
     subst (λ (m : Mdb). AreThings (found_things image m)) (some-same (mdb_at (block_at image) n) mdb is) (found_are_things image n bytes there)
 
--- The law of paths: no path of the bag that `take` makes of a sound image leads out of it, and all differ, also without regard to case.
+-- The law of paths: no path of the bag that `take` makes of a sound image leads out of it, and all differ, also without regard to the case of ASCII letters.
 pub taken_paths_are_lawful : TakenPathsAreLawful
 taken_paths_are_lawful = taken-paths
 
--- The same of what remains: whatever bytes an image has, no path of the bag of what remains of it leads out of it, and all differ, also without regard to case,
+-- The same of what remains: whatever bytes an image has, no path of the bag of what remains of it leads out of it, and all differ, also without regard to the case of ASCII letters,
 -- those of the tag files too.
 pub rescued_paths_are_lawful : RescuedPathsAreLawful
 rescued_paths_are_lawful image limit found facts bytes is =

@@ -23,3 +23,5 @@ mod ShownLemmas
 mod PagedLemmas
 mod RemainsLemmas
 mod LookedLemmas
+mod RangeLemmas
+mod UnreadLemmas

@@ -1,30 +1,44 @@
 -- Why nothing was taken off an image.
 use Rattle.std.specs.Borrow.{Bor}
-use Rattle.std.specs.Prelude.{◌≡◌, ◌⊎◌, ⊤, ℕ, List, None, Some}
+use Rattle.std.specs.Prelude.{◌≡◌, ◌⊎◌, ⊤, ℕ, List, Option, None, Some}
 use Rattle.hfs_check.specs.declared.mount_fault.MountFault.{MountFault}
 use Rattle.hfs_check.specs.Report.{report_of}
 use Rattle.hfs_commands.specs.declared.fault.Fault.{Fault}
 use Rattle.hfs_commands.specs.declared.fault.Fault.TheVariants.{CannotRead, NoMemory, Refused}
+use Rattle.hfs_commands.specs.declared.opened_file.OpenedFile.{OpenedFile}
 use Rattle.hfs_commands.specs.Faults.{IsUnopened, IsUnprinted}
+use Rattle.hfs_commands.specs.OpenedFiles.{failures_of}
+use Rattle.hfs_commands.specs.SeenFiles.{parts_of}
+use Rattle.hfs_image.specs.Failing.{SomeReadFails}
 use Rattle.hfs_remains_forks.specs.Finds.{found_directory}
-use Rattle.hfs_source.specs.Images.{OfEach}
+use Rattle.hfs_source.specs.declared.blocks.BlocksOf.{BlocksOf}
+use Rattle.hfs_source.specs.declared.fetching.SparseFault.{SparseFault}
+use Rattle.hfs_source.specs.declared.fetching.SparseFault.TheVariants as sparse
+use Rattle.hfs_source.specs.declared.range.RangeBytes.{RangeBytes}
+use Rattle.hfs_source.specs.declared.ranges.ByteRange.{ByteRange}
+use Rattle.hfs_source.specs.declared.seen_blocks.SeenBlocks.{SeenBlocks}
+use Rattle.hfs_source.specs.Images.{FailsInRange, OfEach}
+use Rattle.hfs_word_take.specs.Opening.{AreBlocksAt, IsLineOf}
 use Rattle.hfs_word_rescue.specs.declared.image.HoldFault.{HoldFault}
 use Rattle.hfs_word_rescue.specs.declared.image.HoldFault.TheVariants as hold
 use Rattle.hfs_word_rescue.specs.declared.words.RescueWords.{RescueWords}
 
--- there is no directory in an image, and its check finds this fault; or a read failed, or memory was refused
-abbrev pub IsUnheld : HoldFault → List ℕ → Type 0
-IsUnheld (hold.NoDirectory fault) image = (found_directory image ≡ None) × (fault ≡ (report_of image).fault)
-IsUnheld hold.ReadFailed image = ⊤
-IsUnheld hold.NoMemory image = ⊤
+-- ---- why nothing is found of an image
 
--- what is asked for was not opened, or it is refused
-abbrev pub IsUnread : RescueWords → Fault → Type 0
-IsUnread words why = IsUnopened words.image words.volume why ⊎ ((refusal : MountFault) × (why ≡ Refused refusal))
+-- what it means for an image that its blocks weren't read
+abbrev pub unread_fault : SparseFault → HoldFault
+unread_fault sparse.ReadFailed = hold.ReadFailed
+unread_fault sparse.Memory = hold.NoMemory
 
--- or its list was not printed
-abbrev pub IsUnlisted : RescueWords → Fault → Type 0
-IsUnlisted words why = IsUnread words why ⊎ IsUnprinted why
+-- there is no directory in an image, and its check finds this fault, or none
+abbrev pub HasNoDirectory : Option MountFault → List ℕ → Type 0
+HasNoDirectory fault image = (found_directory image ≡ None) × (fault ≡ (report_of image).fault)
+
+-- none of these images has a directory, and its check finds this fault; or a read failed, if one did; or memory was refused
+abbrev pub IsUnheld : (List ℕ → Type 0) → Type 0 → HoldFault → Type 0
+IsUnheld Holds HasFailed (hold.NoDirectory fault) = OfEach Holds (HasNoDirectory fault)
+IsUnheld Holds HasFailed hold.ReadFailed = HasFailed
+IsUnheld Holds HasFailed hold.NoMemory = ⊤
 
 -- ---- which fault is reported
 
@@ -35,6 +49,36 @@ told_fault path (hold.NoDirectory (Some why)) = Refused why
 told_fault path hold.ReadFailed = CannotRead path
 told_fault path hold.NoMemory = NoMemory
 
--- nothing is found of each of these images, for a reason that it has, and this is said about that
-abbrev pub IsUnfound : Bor (List ℕ) → (List ℕ → Type 0) → Fault → Type 0
-IsUnfound path Holds why = (fault : HoldFault) × OfEach Holds (IsUnheld fault) × (why ≡ told_fault path fault)
+-- nothing is found of each of these images, for a reason that holds, and this is said about that
+abbrev pub IsUnfound : Bor (List ℕ) → (List ℕ → Type 0) → Type 0 → Fault → Type 0
+IsUnfound path Holds HasFailed why = (fault : HoldFault) × IsUnheld Holds HasFailed fault × (why ≡ told_fault path fault)
+
+-- ---- what was opened
+
+-- blocks of a part of a file
+abbrev pub PartBlocks : Type 0 → Type 0
+PartBlocks F = SeenBlocks (BlocksOf (RangeBytes (OpenedFile F)))
+
+-- a read of these blocks failed, of bytes that each part has
+abbrev pub HasFailedIn : {F : Type 0} → PartBlocks F → Type 0
+HasFailedIn source =
+    SomeReadFails (parts_of source.blocks) (FailsInRange (failures_of source.blocks.bytes.bytes) source.blocks.bytes.start source.blocks.bytes.len)
+
+-- nothing is found of the blocks of what is asked for, as they were opened, and as reading left them; and this is said about that
+pub record IsUnloaded (F : Type 0) (words : RescueWords) (why : Fault) : Type 0 where
+  pub range : ByteRange
+  pub line : Option (List ℕ)
+  pub answers : IsLineOf words.volume range line
+  pub opened : PartBlocks F
+  pub placed : AreBlocksAt range opened
+  pub left : PartBlocks F
+  pub narrows : OfEach (parts_of left.blocks) (parts_of opened.blocks)
+  pub told : IsUnfound words.image (parts_of left.blocks) (HasFailedIn opened) why
+
+-- what is asked for was not opened, or nothing is found of it
+abbrev pub IsUnread : Type 0 → RescueWords → Fault → Type 0
+IsUnread F words why = IsUnopened words.image words.volume why ⊎ IsUnloaded F words why
+
+-- or its list was not printed
+abbrev pub IsUnlisted : Type 0 → RescueWords → Fault → Type 0
+IsUnlisted F words why = IsUnread F words why ⊎ IsUnprinted why

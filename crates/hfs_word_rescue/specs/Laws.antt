@@ -26,12 +26,12 @@ use Rattle.hfs_word_rescue.specs.Answers.{found_sums}
 use Rattle.hfs_word_rescue.specs.Bags.{rescued_bag, rescued_items}
 use Rattle.hfs_word_rescue.specs.Found.{IsFoundOf}
 
--- of a sound image of bytes no path leads out of the bag of its items, and all differ, also without regard to case, those of the tag files too
+-- of a sound image of bytes no path leads out of the bag of its items, and all differ, also without regard to the case of ASCII letters, those of the tag files too
 abbrev pub TakenPathsAreLawful : Type 0
 TakenPathsAreLawful =
     (image : List ℕ) (facts : BagFacts) → IsTrue (is_bytes image) → IsSound image → AreInside (image_bag image facts) × AllDiffer (image_bag image facts)
 
--- of any image of bytes no path leads out of the bag, and all differ, also without regard to case, those of the tag files too
+-- of any image of bytes no path leads out of the bag, and all differ, also without regard to the case of ASCII letters, those of the tag files too
 abbrev pub RescuedPathsAreLawful : Type 0
 RescuedPathsAreLawful =
     (image : List ℕ) (limit : ℕ) (found : Found) (facts : BagFacts) → IsTrue (is_bytes image) → IsFoundOf image limit found

@@ -3,6 +3,7 @@ ghost use Rattle.std.proofs.Props.{props};
 ghost use Rattle.std.specs.Prelude.{◌≡◌, ◌≤◌, IfErr, IfOk, Some};
 ghost use Rattle.hfs_commands.specs.Checks.{HasCheckLines, IsCheckFault};
 ghost use Rattle.hfs_remains_forks.specs.Finds.{IsFoundIn};
+ghost use Rattle.hfs_image.specs.Failing.{SomeReadFails};
 ghost use Rattle.hfs_image.specs.Known.{OfKnown};
 ghost use Rattle.hfs_source.specs.Images.{HasLength, OfEach};
 ghost use Rattle.hfs_source.specs.Seen.{EachKnown};
@@ -53,7 +54,8 @@ pub struct Unfound<S: PlacedBlocks> {
 
 impl<S: PlacedBlocks + Drop> RescuedImage<S> {
     /// Checks an image, and finds what there is of it, in the blocks that are needed for that. Faults, with the source handed
-    /// back, of which they hold: no directory is found in it, a read failed, memory was refused.
+    /// back, of which they hold: no directory is found in it; a read failed, of bytes that every image consistent with those
+    /// read has; memory was refused.
     pub fn open(
         alloc: Global,
         source: SeenBlocks<S>,
@@ -62,8 +64,8 @@ impl<S: PlacedBlocks + Drop> RescuedImage<S> {
         ensures line { IfOk result (λ image. image.line ≡ line) }
         ensures narrows { IfOk result (λ image. OfEach (S.Holds image.source.blocks)
             (S.Holds source.blocks)) }
-        ensures none { IfErr result (λ back. OfEach (S.Holds back.source.blocks)
-            (IsUnheld back.fault)) }
+        ensures none { IfErr result (λ back. IsUnheld (S.Holds back.source.blocks)
+            (SomeReadFails (S.Holds source.blocks) (S.Fails source.blocks)) back.fault) }
         ensures back { IfErr result (λ back. OfEach (S.Holds back.source.blocks)
             (S.Holds source.blocks)) }
     {

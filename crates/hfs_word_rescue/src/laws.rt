@@ -1,13 +1,14 @@
 //! What holds for the definitions, each law as the contract of a function that does nothing.
 ghost use Rattle.hfs_word_rescue.specs.Laws.{RemainsAreFound, RescuedPathsAreLawful, SoundPayloadsAreVolumes, SumsAreOfBags, TakenPathsAreLawful};
 
-/// No path of the bag that `take` makes of a sound image leads out of it, and all paths differ, even ignoring case.
+/// No path of the bag that `take` makes of a sound image leads out of it, and all paths differ, even ignoring the case of ASCII
+/// letters.
 pub fn taken_paths_are_lawful()
     ensures { TakenPathsAreLawful }
 {}
 
 /// Whatever bytes an image has, no path of the bag of what remains of it leads out of it, and all paths differ, even ignoring
-/// case.
+/// the case of ASCII letters.
 pub fn rescued_paths_are_lawful()
     ensures { RescuedPathsAreLawful }
 {}

@@ -122,7 +122,7 @@ pub fn list_rescue<'a, R: Files + AllocGlobal, W: Write>(
     writer: &mut W,
     words: &RescueWords<'a>,
 ) -> Result<Rescued, Fault<'a>>
-    ensures { IfErr result (IsUnlisted words.now) }
+    ensures { IfErr result (IsUnlisted R.File words.now) }
 {
     let LoadedImage { image, sum } = load_image(rt, words)?;
     let answer = write_remains(rt.alloc(), writer, &image, words)?;

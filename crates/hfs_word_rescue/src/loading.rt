@@ -1,9 +1,13 @@
 //! The image that is asked for, opened once.
 ghost use Rattle.std.specs.Prelude.{◌≡◌, IfErr, IfOk, string_bytes};
 ghost use Rattle.std.specs.Option.{option_map};
+ghost use Rattle.hfs_commands.specs.Faults.{IsUnopened};
+ghost use Rattle.hfs_commands.specs.OpenedFiles.{images_of};
+ghost use Rattle.hfs_commands.specs.SeenFiles.{parts_of};
+ghost use Rattle.hfs_image.specs.Failing.{SomeReadFails};
 ghost use Rattle.hfs_source.specs.Images.{OfEach};
-ghost use Rattle.hfs_word_take.specs.Opening.{AreBlocksAt, IsLineOf, TellsVolume};
-ghost use Rattle.hfs_word_rescue.specs.Faults.{IsUnfound, IsUnread, told_fault};
+ghost use Rattle.hfs_word_take.specs.Opening.{AreBlocksAt, IsLineOf, TellsSum, TellsSumIn, TellsVolume};
+ghost use Rattle.hfs_word_rescue.specs.Faults.{HasFailedIn, IsUnfound, IsUnread, told_fault};
 
 use crate::image::{HoldFault, RescuedImage, Unfound};
 use crate::words::RescueWords;
@@ -27,8 +31,7 @@ pub(crate) struct LoadedImage<S: PlacedBlocks> {
 
 /// The fault for an image of which nothing is found, given its file.
 fn fault_of<'a>(fault: HoldFault, words: &RescueWords<'a>) -> Fault<'a>
-    ensures unread { IsUnread words.now result }
-    ensures told { result ≡ told_fault words.now.image fault }
+    ensures { result ≡ told_fault words.now.image fault }
 {
     match fault {
         HoldFault::NoDirectory(Some(why)) => Fault::Refused(why),
@@ -45,8 +48,9 @@ struct Unloaded<'a, S: PlacedBlocks> {
     source: SeenBlocks<S>,
 }
 
-/// What is found in the blocks that are asked for. A fault holds for every image consistent with the bytes read: if there is no
-/// directory, it is the fault of the check.
+/// What is found in the blocks that are asked for. A fault, with the source handed back, holds for every image consistent with
+/// the bytes read: if there is no directory, it is the fault of the check; `CannotRead` only if there is none of either, or a
+/// read failed.
 fn load_part<'a, S: PlacedBlocks + Drop>(
     alloc: Global,
     blocks: SeenBlocks<S>,
@@ -56,9 +60,10 @@ fn load_part<'a, S: PlacedBlocks + Drop>(
     ensures line { IfOk result (λ image. image.line ≡ line) }
     ensures narrows { IfOk result (λ image. OfEach (S.Holds image.source.blocks)
         (S.Holds blocks.blocks)) }
-    ensures unread { IfErr result (λ back. IsUnread words.now back.fault) }
     ensures told { IfErr result (λ back. IsUnfound words.now.image (S.Holds back.source.blocks)
-        back.fault) }
+        (SomeReadFails (S.Holds blocks.blocks) (S.Fails blocks.blocks)) back.fault) }
+    ensures back { IfErr result (λ back. OfEach (S.Holds back.source.blocks)
+        (S.Holds blocks.blocks)) }
 {
     match RescuedImage::open(alloc, blocks, line) {
         Ok(image) => Ok(image),
@@ -88,8 +93,10 @@ fn find_range<'a, R: Files + AllocGlobal>(
 ) -> Result<FoundRange<R::File>, Fault<'a>>
     ensures line { IfOk result (λ found. IsLineOf words.now.volume found.range
         (option_map string_bytes found.line)) }
+    ensures sum { IfOk result (λ found. TellsSum (images_of found.source.blocks.bytes.bytes)
+        words.now.volume found.range (option_map string_bytes found.line) found.sum) }
     ensures part { IfOk result (λ found. AreBlocksAt found.range found.source) }
-    ensures fault { IfErr result (IsUnread words.now) }
+    ensures fault { IfErr result (IsUnopened words.now.image words.now.volume) }
 {
     let FoundPart { bytes, line, sum } = find_part(rt, words.image, Counted::Ranges, words.volume)?;
     let range = bytes.range;
@@ -101,6 +108,62 @@ fn find_range<'a, R: Files + AllocGlobal>(
     })
 }
 
+/// The fault for a range that doesn't lie in its file.
+fn out_of_range<S: PlacedBlocks + Drop>(image: RescuedImage<S>) -> Unloaded<'static, S>
+    ensures fault { result.fault ≡ Fault.Refused MountFault.Short }
+    ensures source { result.source ≡ image.source }
+{
+    let RescuedImage {
+        source,
+        len: _,
+        line: _,
+        check: _,
+        finds: _,
+    } = image;
+    Unloaded {
+        fault: Fault::Refused(MountFault::Short),
+        source,
+    }
+}
+
+/// What is found in the range that is asked for, even one without a volume. Faults, with the source handed back: as for
+/// [`load_part`].
+fn load_range<'a, F: Read + Seek + Drop>(
+    alloc: Global,
+    found: FoundRange<F>,
+    words: &RescueWords<'a>,
+) -> Result<LoadedImage<Part<F>>, Unloaded<'a, Part<F>>>
+    requires line { IsLineOf words.now.volume found.range (option_map string_bytes found.line) }
+    requires sum { TellsSum (images_of found.source.blocks.bytes.bytes) words.now.volume
+        found.range (option_map string_bytes found.line) found.sum }
+    requires part { AreBlocksAt found.range found.source }
+    ensures line { IfOk result (λ loaded. TellsVolume words.now.volume loaded.image.len
+        (option_map string_bytes loaded.image.line)) }
+    ensures sum { IfOk result (λ loaded. TellsSumIn (parts_of loaded.image.source.blocks)
+        words.now.volume loaded.image.len (option_map string_bytes loaded.image.line) loaded.sum) }
+    ensures told { IfErr result (λ back. IsUnfound words.now.image (parts_of back.source.blocks)
+        (HasFailedIn found.source) back.fault) }
+    ensures back { IfErr result (λ back. OfEach (parts_of back.source.blocks)
+        (parts_of found.source.blocks)) }
+{
+    let FoundRange {
+        source,
+        range,
+        line,
+        sum,
+    } = found;
+    match load_part(alloc, source, line, words) {
+        Ok(image) => {
+            if image.len != range.len {
+                // A range that doesn't lie in its file has no bytes, and nothing is found of it.
+                return Err(out_of_range(image));
+            }
+            Ok(LoadedImage { image, sum })
+        }
+        Err(back) => Err(back),
+    }
+}
+
 /// The image that is asked for, or the range in it, even one without a volume, and what is found of it. Faults, the first that
 /// holds: it can't be read; `NoVolume`, `SeveralVolumes`; the image's own, if it has no directory; memory was refused.
 pub(crate) fn load_image<'a, R: Files + AllocGlobal>(
@@ -109,22 +172,13 @@ pub(crate) fn load_image<'a, R: Files + AllocGlobal>(
 ) -> Result<LoadedImage<Part<R::File>>, Fault<'a>>
     ensures line { IfOk result (λ loaded. TellsVolume words.now.volume loaded.image.len
         (option_map string_bytes loaded.image.line)) }
-    ensures fault { IfErr result (IsUnread words.now) }
+    ensures sum { IfOk result (λ loaded. TellsSumIn (parts_of loaded.image.source.blocks)
+        words.now.volume loaded.image.len (option_map string_bytes loaded.image.line) loaded.sum) }
+    ensures fault { IfErr result (IsUnread R.File words.now) }
 {
-    let FoundRange {
-        source,
-        range,
-        line,
-        sum,
-    } = find_range(rt, words)?;
-    match load_part(rt.alloc(), source, line, words) {
-        Ok(image) => {
-            if image.len != range.len {
-                // A range that doesn't lie in its file has no bytes, and nothing is found of it.
-                return Err(Fault::Refused(MountFault::Short));
-            }
-            Ok(LoadedImage { image, sum })
-        }
+    let found = find_range(rt, words)?;
+    match load_range(rt.alloc(), found, words) {
+        Ok(loaded) => Ok(loaded),
         Err(Unloaded { fault, source: _ }) => Err(fault),
     }
 }

@@ -1,8 +1,7 @@
 //! What is rescued of an image that was looked at.
-ghost use Rattle.std.specs.Prelude.{◌≡◌, ◌≤◌, IfErr, IfOk, IfSome, ℕ, List};
+ghost use Rattle.std.specs.Prelude.{◌≡◌, ◌≤◌, IfErr, IfOk, IfSome};
 ghost use Rattle.hfs_remains_forks.specs.Looks.{IsLookedAt};
-ghost use Rattle.hfs_source.specs.Images.{OfEach};
-ghost use Rattle.hfs_word_rescue.specs.Faults.{IsUnheld};
+ghost use Rattle.hfs_word_rescue.specs.Faults.{IsUnheld, unread_fault};
 
 use crate::image::{HoldFault, RescuedImage, Unfound};
 use hfs_commands::report_answer;
@@ -12,7 +11,7 @@ use std::alloc::Global;
 
 /// The fault for blocks that weren't read.
 pub(crate) fn fault_of(fault: SparseFault) -> HoldFault
-    ensures { (image : List ℕ) → IsUnheld result image }
+    ensures { result ≡ unread_fault fault }
 {
     match fault {
         SparseFault::ReadFailed => HoldFault::ReadFailed,
@@ -21,7 +20,7 @@ pub(crate) fn fault_of(fault: SparseFault) -> HoldFault
 }
 
 /// An image that was looked at, with what its check says. Faults, with the source handed back: it has no directory, memory was
-/// refused.
+/// refused; nothing is read here, so no read fails.
 pub(crate) fn rescued_image<S: PlacedBlocks + Drop>(
     alloc: Global,
     image: LookedImage<S>,
@@ -31,8 +30,7 @@ pub(crate) fn rescued_image<S: PlacedBlocks + Drop>(
     requires few { IfSome image.found (λ _. image.len ≤ 2147483648) }
     ensures line { IfOk result (λ rescued. rescued.line ≡ line) }
     ensures source { IfOk result (λ rescued. rescued.source ≡ image.source) }
-    ensures none { IfErr result (λ back. OfEach (S.Holds back.source.blocks)
-        (IsUnheld back.fault)) }
+    ensures none { IfErr result (λ back. IsUnheld (S.Holds back.source.blocks) ⊥ back.fault) }
     ensures back { IfErr result (λ back. back.source ≡ image.source) }
 {
     let LookedImage {

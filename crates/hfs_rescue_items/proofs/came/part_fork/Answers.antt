@@ -4,8 +4,8 @@ use Rattle.hfs_rescue_items.specs.Bytes.{GivesBytes, taken_bytes}
 use Rattle.hfs_rescue_items.specs.Sources.{is_alone}
 use Rattle.hfs_rescue_items.proofs.came.part_fork.Goals as goal
 
-pub returns : goal.returns
-returns c image =
+pub returns-clause-bytes : goal.returns-clause-bytes
+returns-clause-bytes c image =
     let alone : is_alone c.args.planned.kind ≡ false = search rules in
     subst (λ (b : Bool). GivesBytes image c.args.found.now (if b then [] else taken_bytes image c.args.found.now c.args.kind c.args.planned.place) c.in_ok-fork.fork) (sym alone)
     (c.in_ok-fork.ensures.bytes image)

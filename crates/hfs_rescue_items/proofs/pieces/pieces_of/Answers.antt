@@ -10,4 +10,4 @@ loop-place-preserved c image =
     let first : c.min-count.result ≡ min c.loop-place.left c.args.mdb.now.allocation_block_size = search rules in
     fork_more image c.args.mdb.now (fork_bytes image c.args.mdb.now c.args.length c.args.places.now) c.args.places.now (pieces_bytes true image c.loop-place.pieces.items)
     (pieces_bytes true image c.push_place.new.pieces.items) c.loop-place.left c.min-count.result (c.loop-place.left - c.min-count.result) c.loop-place.place-index _ _ c.loop-place-test.true refl
-    (c.loop-place.invariant image) first (c.in_ok-push_place.ensures image) refl
+    (c.loop-place.invariant image) first (c.in_ok-push_place.ensures.bytes image) refl

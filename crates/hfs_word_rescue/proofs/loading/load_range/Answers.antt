@@ -1,0 +1,35 @@
+-- The sum that was told is that of the blocks; a range that doesn't lie in its file has no bytes, and nothing is found of it.
+use Rattle.std.proofs.Common.{◌≡◌, ◌≢◌, Global, Some, rules, string_bytes, subst, sym}
+use Rattle.std.specs.Option.{option_map}
+use Rattle.hfs_check.specs.declared.mount_fault.MountFault.TheVariants.{Short}
+use Rattle.hfs_commands.specs.OpenedFiles.{images_of}
+use Rattle.hfs_commands.specs.SeenFiles.{parts_of}
+use Rattle.hfs_source.specs.Images.{OfEach}
+use Rattle.hfs_word_rescue.specs.declared.image.HoldFault.TheVariants.{NoDirectory}
+use Rattle.hfs_word_rescue.specs.Faults.{HasNoDirectory}
+use Rattle.hfs_word_take.specs.Opening.{TellsSumIn}
+use Rattle.hfs_word_rescue.proofs.RangeLemmas.{none_outside, sum_in_part}
+use Rattle.hfs_word_rescue.proofs.loading.load_range.Goals as goal
+
+pub returns-in-Ok-clause-sum : goal.returns-in-Ok-clause-sum
+returns-in-Ok-clause-sum g c =
+    let found = c.args.found in
+    let image = c.in-Ok.image in
+    let same : image.len ≡ found.range.len = search rules in
+    let told : image.line ≡ found.line = search rules in
+    subst (λ line. TellsSumIn (parts_of image.source.blocks) c.args.words.now.volume image.len (option_map (string_bytes {Z = Global}) line) found.sum)
+    (sym told)
+    (sum_in_part (images_of found.source.blocks.bytes.bytes) (parts_of image.source.blocks) found.range found.source.blocks.bytes.start
+    found.source.blocks.bytes.len c.in-Ok.ensures.narrows c.requires.part image.len image.long same
+    c.args.words.now.volume (option_map (string_bytes {Z = Global}) found.line) found.sum c.requires.sum)
+
+pub returns-then-len-clause-told : goal.returns-then-len-clause-told
+returns-then-len-clause-told g c =
+    let found = c.args.found in
+    let image = c.in-Ok.image in
+    let other : image.len ≢ found.range.len = search rules in
+    let none : OfEach (parts_of image.source.blocks) (HasNoDirectory (Some Short)) =
+    none_outside (images_of found.source.blocks.bytes.bytes) (parts_of image.source.blocks) found.range found.source.blocks.bytes.start
+    found.source.blocks.bytes.len c.in-Ok.ensures.narrows c.requires.part image.len image.long other image.finds image.finds_are (Some Short) in
+    let own : c.out_of_range.result.source ≡ image.source = c.out_of_range.ensures.source in
+    (NoDirectory (Some Short), subst (λ source. OfEach (parts_of source.blocks) (HasNoDirectory (Some Short))) (sym own) none, c.out_of_range.ensures.fault)
