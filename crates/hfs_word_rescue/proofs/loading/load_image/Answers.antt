@@ -3,8 +3,8 @@ use Rattle.std.proofs.Common.{Global, inr, string_bytes}
 use Rattle.std.specs.Option.{option_map}
 use Rattle.hfs_word_rescue.proofs.loading.load_image.Goals as goal
 
-pub returns-in-Err-clause-fault : goal.returns-in-Err-clause-fault
-returns-in-Err-clause-fault g c =
+pub returns-clause-fault : goal.returns-clause-fault
+returns-clause-fault g c =
     let found = c.in_ok-found.found in
     inr (record {
       range = found.range;

@@ -11,8 +11,8 @@ use Rattle.hfs_word_take.specs.Opening.{TellsSumIn}
 use Rattle.hfs_word_rescue.proofs.RangeLemmas.{none_outside, sum_in_part}
 use Rattle.hfs_word_rescue.proofs.loading.load_range.Goals as goal
 
-pub returns-in-Ok-clause-sum : goal.returns-in-Ok-clause-sum
-returns-in-Ok-clause-sum g c =
+pub returns-else-image-range-clause-sum : goal.returns-else-image-range-clause-sum
+returns-else-image-range-clause-sum g c =
     let found = c.args.found in
     let image = c.in-Ok.image in
     let same : image.len ≡ found.range.len = search rules in
@@ -23,8 +23,8 @@ returns-in-Ok-clause-sum g c =
     found.source.blocks.bytes.len c.in-Ok.ensures.narrows c.requires.part image.len image.long same
     c.args.words.now.volume (option_map (string_bytes {Z = Global}) found.line) found.sum c.requires.sum)
 
-pub returns-then-len-clause-told : goal.returns-then-len-clause-told
-returns-then-len-clause-told g c =
+pub returns-then-image-range-clause-told : goal.returns-then-image-range-clause-told
+returns-then-image-range-clause-told g c =
     let found = c.args.found in
     let image = c.in-Ok.image in
     let other : image.len ≢ found.range.len = search rules in
