@@ -4,6 +4,7 @@ pub mod Small
 mod Texts
 mod OneJournal
 mod Learning
+mod Late
 mod Working
 mod Counting
 mod OneRun

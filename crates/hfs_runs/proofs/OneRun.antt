@@ -22,7 +22,8 @@ use Rattle.hfs_runs.specs.Answers.{answers_text, is_whole, replies_of}
 use Rattle.hfs_runs.specs.Asking.{AreNumbered}
 use Rattle.hfs_runs.specs.Runs.{IsHandedOut, AreLinesRun, IsScriptRun}
 use Rattle.hfs_runs.specs.Tellings.{AreWhole, OfEach}
-use Rattle.hfs_runs.proofs.Working.{AreJobs, AreDone, AreViewings, AreViewed, IsEnd, worked_at, made_at, passes_count, stand_at, viewed_at}
+use Rattle.hfs_runs.proofs.Late.{told_whole}
+use Rattle.hfs_runs.proofs.Working.{AreJobs, AreDone, AreViewings, AreViewed, IsEnd, worked_at, made_at, dones_count, passes_count, stand_at, told_within, viewed_at}
 
 all_at : {X : Type 0} (P : X → Type 0) (xs : List X) (i : ℕ) (d : X) → All P xs → i < length xs → P (get_or xs i d)
 all_at P xs i d all below = all i d below
@@ -54,6 +55,7 @@ ran items book image lines volume text whole shown asked passes jobs dones begun
     record {
       book = book;
       journal = out.journal;
+      dones = dones;
       replies = replies_of dones ended;
       asked = asked;
       numbered = numbered;
@@ -66,8 +68,10 @@ ran items book image lines volume text whole shown asked passes jobs dones begun
       follows = closed.follows;
       made = λ place below. made_at items book image lines (workers lines) passes jobs dones out.journal begins done closed.all place below;
       others = subst (λ (n : ℕ). HasNoOthers n out.journal) (passes_count items book image lines passes jobs dones begins done) closed.others;
-      worked = λ place below. worked_at items book image lines (workers lines) passes jobs dones begins done place below;
+      many = dones_count items book image lines passes jobs dones begins done;
+      worked = λ place none below. worked_at items book image lines (workers lines) passes jobs dones begins done place none below;
       viewed = λ place below. viewed_at book opening lines (viewers lines) begun ended views viewed place below;
+      told = told_whole shown dones (told_within items book image jobs dones done) shown_is;
       stands = λ yes place below.
           stand_at items book image lines (workers lines) passes jobs dones begins done law out.journal out.shown out.before.list out.afterwards.list end (when_true shown yes shown_is) place below;
     }

@@ -1,10 +1,12 @@
 -- What was read of an image for a run, and what the run made of it.
 use Rattle.std.proofs.Common.{◌≡◌, ◌⊎◌, inl, inr, ⊎_elim, ℕ, ◌/◌, Bool, true, List, length, Some, None, sym, ap, subst, ◌∙◌}
+use Rattle.std.specs.Borrow.{Bor}
 use Rattle.hfs_blocks.specs.Layers.{Numbered}
 use Rattle.hfs_check.specs.Sound.{IsSound, IsImageLength}
 use Rattle.hfs_source.specs.Images.{OfEach}
 use Rattle.hfs_source.specs.Seen.{IsSeen, SeesMore}
 use Rattle.hfs_runs.specs.declared.needed_running.NeededRan.{NeededRan}
+use Rattle.hfs_runs.specs.Jobs.{has_viewer}
 use Rattle.hfs_runs.specs.NamedForks.{HasNamedForks}
 use Rattle.hfs_runs.specs.Naming.{read_forks}
 use Rattle.hfs_runs.specs.OnImage.{IsLinesCopy}
@@ -25,12 +27,12 @@ use Rattle.hfs_copy.proofs.ReadWork.{opened-sound, opened-copy}
 use Rattle.hfs_commands.specs.declared.fault.Fault.{Fault}
 use Rattle.hfs_commands.specs.declared.fault.Fault.TheVariants as fault
 use Rattle.hfs_runs.specs.RunFaults.{fault_of_run}
-use Rattle.hfs_runs.specs.Running.{IsNeededRunOf}
+use Rattle.hfs_runs.specs.Running.{IsNeededFault, IsNeededRunOf}
 
-pub started : (why : ScriptFault) (told : Fault) → told ≡ fault_of_run why → IsStartFault why → (told ≡ fault.NoPlace) ⊎ (told ≡ fault.NoMemory)
-started why told is start = ⊎_elim
-    (λ (no_place : why ≡ run.NoPlace). inl (is ∙ ap fault_of_run no_place))
-    (λ (memory : why ≡ run.Memory). inr (is ∙ ap fault_of_run memory))
+pub started : (lines : List ScriptLine) (path : Bor (List ℕ)) (why : ScriptFault) (told : Fault) → told ≡ fault_of_run why → IsStartFault lines why → IsNeededFault lines path told
+started lines path why told is start = ⊎_elim
+    (λ (no_place : (why ≡ run.NoPlace) × (has_viewer lines ≡ true)). inr (inl (is ∙ ap fault_of_run no_place.0, no_place.1)))
+    (λ (memory : why ≡ run.Memory). inr (inr (is ∙ ap fault_of_run memory)))
     start
 
 module _ (Held Holds : List ℕ → Type 0) (len : ℕ) (old new : WorkingVolume) (is : IsRunnable Held len old) where

@@ -42,10 +42,10 @@ use Rattle.hfs_runs.proofs.MadeFiles.{kept-met, script-kept}
 use Rattle.hfs_runs.proofs.MadeForks.{file-given}
 
 -- want of memory is why a run was not begun
-pub passed-on : {T : Type 0} (r : Result T ScriptFault) (P : ScriptFault → Type 0) → ((fault : ScriptFault) → P fault → fault ≡ run.Memory) → IsErrAnd r P
-    → IfErr r IsStartFault
-passed-on (Ok x) P memory h = tt
-passed-on (Err fault) P memory h = inr (memory fault h)
+pub passed-on : {T : Type 0} (lines : List ScriptLine) (r : Result T ScriptFault) (P : ScriptFault → Type 0) → ((fault : ScriptFault) → P fault → fault ≡ run.Memory) → IsErrAnd r P
+    → IfErr r (IsStartFault lines)
+passed-on lines (Ok x) P memory h = tt
+passed-on lines (Err fault) P memory h = inr (memory fault h)
 
 -- what lies in the volume as it is now lies in it as it was mounted
 pub among-base : (copy : List ℕ) (lines : List ScriptLine) (volume : ImageValue) (text : List ℕ) (all shown : Bool) → AreLinesRun copy lines volume text all shown

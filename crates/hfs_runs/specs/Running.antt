@@ -2,6 +2,7 @@
 use Rattle.std.specs.Prelude.{◌≡◌, ℕ, ◌≤◌, ◌/◌, ◌⊎◌, Bool, true, List, length, None}
 use Rattle.std.specs.Borrow.{Bor}
 use Rattle.hfs_blocks.specs.Layers.{Numbered}
+use Rattle.hfs_runs.specs.Jobs.{has_viewer}
 use Rattle.hfs_runs.specs.NamedForks.{HasNamedForks}
 use Rattle.hfs_runs.specs.NeededRuns.{IsRunOver}
 use Rattle.hfs_runs.specs.Naming.{line_calls, read_forks}
@@ -37,6 +38,6 @@ pub record IsNeededRunOf (Holds : List ℕ → Type 0) (len : ℕ) (lines : List
   pub made : (image : List ℕ) → length image ≡ len → IsOf image read → read_forks lines ≡ true
       → HoldsMade (line_calls lines) ran.over.ran.journal (copy_of read len) image (patched patch image)
 
--- why a script was not run: the image was not read, a viewer had no place, or memory was refused
-abbrev pub IsNeededFault : Bor (List ℕ) → Fault → Type 0
-IsNeededFault path why = (why ≡ fault.CannotRead path) ⊎ (why ≡ fault.NoPlace) ⊎ (why ≡ fault.NoMemory)
+-- why lines were not run: the image was not read; one of them is a viewer's, which had no place; or memory was refused
+abbrev pub IsNeededFault : List ScriptLine → Bor (List ℕ) → Fault → Type 0
+IsNeededFault lines path why = (why ≡ fault.CannotRead path) ⊎ ((why ≡ fault.NoPlace) × (has_viewer lines ≡ true)) ⊎ (why ≡ fault.NoMemory)

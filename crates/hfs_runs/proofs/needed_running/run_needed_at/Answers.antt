@@ -58,10 +58,10 @@ returns-clause-within g c =
     made.1
 
 pub returns-in_err-forks-clause-err : goal.returns-in_err-forks-clause-err
-returns-in_err-forks-clause-err g c = passed-on c.from_residual-in_err-forks.result _ (λ fault is. is) c.from_residual-in_err-forks.ensures.1
+returns-in_err-forks-clause-err g c = passed-on c.args.script c.from_residual-in_err-forks.result _ (λ fault is. is) c.from_residual-in_err-forks.ensures.1
 
 pub returns-in_err-free-clause-err : goal.returns-in_err-free-clause-err
-returns-in_err-free-clause-err g c = passed-on c.from_residual-in_err-free.result _ (λ fault is. is) c.from_residual-in_err-free.ensures.1
+returns-in_err-free-clause-err g c = passed-on c.args.script c.from_residual-in_err-free.result _ (λ fault is. is) c.from_residual-in_err-free.ensures.1
 
 pub returns-in_err-patch-clause-err : goal.returns-in_err-patch-clause-err
-returns-in_err-patch-clause-err g c = passed-on c.from_residual-in_err-patch.result _ (λ fault is. is) c.from_residual-in_err-patch.ensures.1
+returns-in_err-patch-clause-err g c = passed-on c.args.script c.from_residual-in_err-patch.result _ (λ fault is. is) c.from_residual-in_err-patch.ensures.1

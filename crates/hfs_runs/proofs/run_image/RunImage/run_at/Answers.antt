@@ -1,9 +1,11 @@
 -- What was read, and what the run made of it.
-use Rattle.std.proofs.Common.{ℕ, ap, sym, subst}
+use Rattle.std.proofs.Common.{ℕ, Bool, ap, sym, subst}
+use Rattle.hfs_runs.specs.declared.pieces.Answers.{Answers}
 use Rattle.hfs_runs.specs.Pieces.{text_of_pieces}
+use Rattle.hfs_runs.specs.Tellings.{AreKeptWhole}
 use Rattle.hfs_source.specs.Images.{OfEach}
 use Rattle.hfs_runs.specs.Running.{IsNeededRunOf}
-use Rattle.hfs_runs.proofs.RunNeeded.{mountable-old, sound-new, needed-run, seen-then}
+use Rattle.hfs_runs.proofs.RunNeeded.{mountable-old, sound-new, needed-run, seen-then, started}
 use Rattle.hfs_runs.proofs.run_image.RunImage.run_at.Goals as goal
 
 pub fetch_named_forks-requires : goal.fetch_named_forks-requires
@@ -38,3 +40,12 @@ returns-in-Ok-run_needed_at-clause-narrows g c = λ image h.
 
 pub returns-in-Ok-run_needed_at-clause-settled : goal.returns-in-Ok-run_needed_at-clause-settled
 returns-in-Ok-run_needed_at-clause-settled g c = subst (λ s. g.S.Watched.settled s) (sym c.ran_image.ensures.source) c.in-Ok-look_again.ensures.settled
+
+pub returns-in-Ok-run_needed_at-clause-told : goal.returns-in-Ok-run_needed_at-clause-told
+returns-in-Ok-run_needed_at-clause-told g c =
+    let ran = c.in-Ok-run_needed_at.ran in
+    subst (λ (shown : Bool). AreKeptWhole shown c.ran_image.result.answers.replies) (sym c.ran_image.ensures.shown)
+    (subst (λ (answers : Answers). AreKeptWhole ran.shown answers.replies) (sym c.ran_image.ensures.answers) c.in-Ok-run_needed_at.ensures.told)
+
+pub returns-in-Err-clause-fault : goal.returns-in-Err-clause-fault
+returns-in-Err-clause-fault g c = started c.args.script c.args.path.entry c.in-Err.fault c.run_fault.result c.run_fault.ensures c.in-Err.ensures.err
