@@ -1,15 +1,14 @@
 -- Whether the lists that workers were given cover all that was made until then.
-use Rattle.std.proofs.Common.{◌≡◌, ◌≢◌, ◌⊎◌, inl, inr, ⊎_elim, ◌≤◌, ◌==◌, Bool, true, false, List, [], ◌∷◌, map, Vec, Global, refl, sym, ap, subst, arith}
+use Rattle.std.proofs.Common.{◌≡◌, ◌≢◌, ◌⊎◌, inl, inr, ⊎_elim, ◌≤◌, ◌==◌, Bool, true, false, List, [], ◌∷◌, refl, arith}
 use Rattle.std.specs.List.{All}
 use Rattle.std.proofs.lemmas.Bool.Decides.{eqb_tells}
-use Rattle.std.proofs.lemmas.List.Elements.{All-nil, All-cons, All-head, All-tail, All-map}
+use Rattle.std.proofs.lemmas.List.Elements.{All-nil, All-cons, All-head, All-tail}
 use Rattle.hfs_fields.specs.Members.{In}
 use Rattle.hfs_model.specs.declared.reply.Reply.{Reply}
 use Rattle.hfs_shared.specs.Closings.{IsWhether}
 use Rattle.hfs_shared.specs.Tolds.{ToldState}
 use Rattle.hfs_shared.specs.declared.done.Done.{Done}
-use Rattle.hfs_runs.specs.declared.replies.Replies.{Replies}
-use Rattle.hfs_runs.specs.Tellings.{AreWhole, SomeLate, OfEach, OfSome, AreToldWhole, AreKeptWhole}
+use Rattle.hfs_runs.specs.Tellings.{AreWhole, SomeLate, OfEach, OfSome, AreToldWhole}
 
 -- no told list covers more than was made until then
 abbrev pub AreWithin : List (Reply × ToldState) → Type 0
@@ -37,25 +36,6 @@ each_or_some (d ∷ dones) within = ⊎_elim
     (whole_or_late d.replies.items (All-head (λ (done : Done). AreWithin done.replies.items) d dones within))
 
 -- where not all are whole, one is late
-pub told_whole : (shown : Bool) (dones : List Done) → OfEach AreWithin dones → IsWhether shown (OfEach AreWhole dones) → AreToldWhole shown dones
-told_whole true dones within is = is
-told_whole false dones within is = ⊎_elim (λ (whole : OfEach AreWhole dones). absurd (is whole)) (λ (late : OfSome SomeLate dones). late) (each_or_some dones within)
-
--- ---- as they are kept
-
-kept_late : (dones : List Done) → OfSome SomeLate dones
-    → (got : Vec (Reply × ToldState) Global) × In got (map (λ (done : Done). done.replies) dones) × SomeLate got.items
-kept_late [] late = absurd late.1
-kept_late (d ∷ dones) late = ⊎_elim
-    (λ (here : d ≡ late.0). (late.0.replies, inl (ap (λ (done : Done). done.replies) here), late.2))
-    (λ (there : In late.0 dones). let rest = kept_late dones (late.0, there, late.2) in (rest.0, inr rest.1, rest.2))
-    late.1
-
-pub kept_whole : (shown : Bool) (dones : List Done) (replies : Replies) → replies.workers.items ≡ map (λ (done : Done). done.replies) dones → AreToldWhole shown dones
-    → AreKeptWhole shown replies
-kept_whole true dones replies are told =
-    subst (λ (lists : List (Vec (Reply × ToldState) Global)). All (λ (got : Vec (Reply × ToldState) Global). AreWhole got.items) lists) (sym are)
-    (All-map (λ (got : Vec (Reply × ToldState) Global). AreWhole got.items) (λ (done : Done). done.replies) dones told)
-kept_whole false dones replies are told =
-    subst (λ (lists : List (Vec (Reply × ToldState) Global)). (got : Vec (Reply × ToldState) Global) × In got lists × SomeLate got.items) (sym are)
-    (kept_late dones told)
+pub told_exactly : (shown : Bool) (dones : List Done) → OfEach AreWithin dones → IsWhether shown (OfEach AreWhole dones) → AreToldWhole shown dones
+told_exactly true dones within is = is
+told_exactly false dones within is = ⊎_elim (λ (whole : OfEach AreWhole dones). absurd (is whole)) (λ (late : OfSome SomeLate dones). late) (each_or_some dones within)

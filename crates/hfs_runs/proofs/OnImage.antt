@@ -155,7 +155,7 @@ with-one [] P some f = let no : ⊥ = omega (arith, some) in absurd no
 with-one (d ∷ dones) P some f = f d
 
 pub workers_read_the_image : WorkersReadTheImage
-workers_read_the_image copy image lines volume text whole shown is ran place below =
+workers_read_the_image copy image lines volume text whole shown told is ran place below =
     with-one ran.dones (AreWorkersOnImage lines copy image shown ran.journal (place + 1) (ran.replies (Worker (place + 1)))) (omega (arith, below, ran.many)) by
   where
     by : Done → AreWorkersOnImage lines copy image shown ran.journal (place + 1) (ran.replies (Worker (place + 1)))
@@ -180,7 +180,7 @@ workers_read_the_image copy image lines volume text whole shown is ran place bel
 -- ---- what goes out
 
 pub saved_is_made : SavedIsMade
-saved_is_made copy image lines patch text whole shown over keep forks = record {
+saved_is_made copy image lines patch text whole shown told over keep forks = record {
   keep = keep;
   named = forks.named;
   made = sym (alike_after keep (volume_of copy) (volume_of image) over.ran.journal forks.alike)

@@ -17,6 +17,7 @@ use Rattle.hfs_runs.specs.declared.script_fault.ScriptFault.{ScriptFault}
 use Rattle.hfs_runs.specs.declared.script_fault.ScriptFault.TheVariants as run
 use Rattle.hfs_runs.specs.Pieces.{text_of_pieces}
 use Rattle.hfs_runs.specs.Runs.{IsStartFault}
+use Rattle.hfs_runs.specs.Tellings.{ToldReplies}
 use Rattle.hfs_scripts.specs.declared.lines.ScriptLine.{ScriptLine}
 use Rattle.hfs_source.specs.Sparse.{sparse, IsOf}
 use Rattle.hfs_volume.specs.Image.{copy_of}
@@ -66,28 +67,30 @@ module _ (Held Holds : List ℕ → Type 0) (len : ℕ) (old new : WorkingVolume
         → IsOf image new.read → IsLinesCopy lines (copy_of new.read len) image
     lines-copy lines forks image long of = named_forks_are_the_images lines len new image mountable-new right forks long of
 
-    pub needed-run : (lines : List ScriptLine) (patch : Numbered) (text : List ℕ) (all shown : Bool) (ran : NeededRan) → patch ≡ ran.patch → text ≡ text_of_pieces ran.answers
-        → all ≡ ran.whole → shown ≡ ran.shown → IsRunOverAs new.read len lines ran
+    pub needed-run : (lines : List ScriptLine) (patch : Numbered) (text : List ℕ) (all shown : Bool) (told : ToldReplies) (ran : NeededRan) → patch ≡ ran.patch → text ≡ text_of_pieces ran.answers
+        → all ≡ ran.whole → shown ≡ ran.shown → told ≡ ran.answers.replies.workers.items → IsRunOverAs new.read len lines ran
         → (read_forks lines ≡ true → HasNamedForks (sparse new.read) lines new.read) → IsSeen Holds new.read
-        → IsNeededRunOf Holds len lines patch text all shown
-    needed-run lines patch text all shown ran same-patch same-text same-all same-shown over forks seen = record {
+        → IsNeededRunOf Holds len lines patch text all shown told
+    needed-run lines patch text all shown told ran same-patch same-text same-all same-shown same-told over forks seen = record {
       read = new.read;
       ran = here;
       forks = forks;
       seen = seen;
       same = lines-copy lines forks;
       answered = λ image long of.
-          workers_read_the_image (copy_of new.read len) image lines here.over.volume text all shown (lines-copy lines forks image long of) here.over.ran;
+          workers_read_the_image (copy_of new.read len) image lines here.over.volume text all shown told (lines-copy lines forks image long of) here.over.ran;
       copy = λ image long of. opened-copy (Some image) len right new (working-of image of) long;
       made = λ image long of used.
-          saved_is_made (copy_of new.read len) image lines patch text all shown here.over here.keep (here.forks image long of used (forks used));
+          saved_is_made (copy_of new.read len) image lines patch text all shown told here.over here.keep (here.forks image long of used (forks used));
     }
       where
-        here : IsRunOver new.read len lines patch text all shown
-        here = subst (λ (b : Bool). IsRunOver new.read len lines patch text all b) (sym same-shown)
-            (subst (λ (b : Bool). IsRunOver new.read len lines patch text b ran.shown) (sym same-all)
-            (subst (λ (t : List ℕ). IsRunOver new.read len lines patch t ran.whole ran.shown) (sym same-text)
-            (subst (λ (p : Numbered). IsRunOver new.read len lines p (text_of_pieces ran.answers) ran.whole ran.shown) (sym same-patch) over)))
+        here : IsRunOver new.read len lines patch text all shown told
+        here = subst (λ (l : ToldReplies). IsRunOver new.read len lines patch text all shown l) (sym same-told)
+            (subst (λ (b : Bool). IsRunOver new.read len lines patch text all b ran.answers.replies.workers.items) (sym same-shown)
+            (subst (λ (b : Bool). IsRunOver new.read len lines patch text b ran.shown ran.answers.replies.workers.items) (sym same-all)
+            (subst (λ (t : List ℕ). IsRunOver new.read len lines patch t ran.whole ran.shown ran.answers.replies.workers.items) (sym same-text)
+            (subst (λ (p : Numbered). IsRunOver new.read len lines p (text_of_pieces ran.answers) ran.whole ran.shown ran.answers.replies.workers.items)
+            (sym same-patch) over))))
 
 -- what was read of each image, and forks since, is of each that holds when it was looked at again
 pub seen-then : {first fetched looked : List ℕ → Type 0} {old new : Numbered} → IsSeen first old → SeesMore first fetched old new → OfEach looked fetched → IsSeen looked new

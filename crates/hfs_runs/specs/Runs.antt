@@ -35,7 +35,7 @@ use Rattle.hfs_runs.specs.Asking.{AreNumbered}
 use Rattle.hfs_runs.specs.Jobs.{has_viewer}
 use Rattle.hfs_runs.specs.Pieces.{text_of_pieces}
 use Rattle.hfs_runs.specs.Standing.{AllStand}
-use Rattle.hfs_runs.specs.Tellings.{AllBegin, AreToldWhole, OfEach}
+use Rattle.hfs_runs.specs.Tellings.{AllBegin, AreToldWhole, OfEach, ToldReplies}
 use Rattle.hfs_runs.specs.Views.{AreReads}
 
 -- ---- faults
@@ -92,11 +92,11 @@ pub record IsHandedOut (base : List ℕ) (volume : ImageValue) (dones : List Don
   pub learned : OfEach (AllBegin before.list) dones
 
 -- what a run of these lines on an image made: the volume afterwards, the text of the answers, whether all lines were answered, and
--- whether each change was shown at once. The volume's image agrees with the given one, except for the blocks of forks that calls of a legal
+-- whether each change was shown at once, and what workers were told. The volume's image agrees with the given one, except for the blocks of forks that calls of a legal
 -- journal wrote, which made it one after the other, and its volume is the one after that journal, which has as many entries of each worker
 -- as it got replies, and none of anybody else. Each change was shown at once exactly where each list that a worker was given covers all calls
 -- that were made until then, and then each reply to a worker is in that journal; otherwise some list covers fewer of them.
-pub record AreLinesRun (image : List ℕ) (lines : List ScriptLine) (volume : ImageValue) (text : List ℕ) (whole shown : Bool) : Type 0 where
+pub record AreLinesRun (image : List ℕ) (lines : List ScriptLine) (volume : ImageValue) (text : List ℕ) (whole shown : Bool) (told : ToldReplies) : Type 0 where
   pub book : Book
   pub journal : List Entry
   pub dones : List Done
@@ -116,28 +116,34 @@ pub record AreLinesRun (image : List ℕ) (lines : List ScriptLine) (volume : Im
   pub worked : (place : ℕ) (none : Done) → place < workers lines
       → IsWorked book image (place + 1) (calls_of (Worker (place + 1)) lines) (replies (Worker (place + 1))) (get_or dones place none)
   pub viewed : (place : ℕ) → place < viewers lines → IsViewedFrom book (volume_of image) (calls_of (Viewer (place + 1)) lines) (replies (Viewer (place + 1)))
-  pub told : AreToldWhole shown dones
+  pub told_is : told ≡ map (λ (done : Done). done.replies) dones
+  pub shown_is : AreToldWhole shown dones
   pub stands : shown ≡ true → (place : ℕ) → place < workers lines → AllStand image journal (calls_of (Worker (place + 1)) lines) (replies (Worker (place + 1)))
+
+-- the same, where what workers were told isn't handed out
+abbrev pub AreLinesRunUntold : List ℕ → List ScriptLine → ImageValue → List ℕ → Bool → Bool → Type 0
+AreLinesRunUntold image lines volume text whole shown = (told : ToldReplies) × AreLinesRun image lines volume text whole shown told
 
 -- the same of what the program hands out
 abbrev pub AreLinesRunAs : List ℕ → List ScriptLine → Ran → Type 0
-AreLinesRunAs image lines ran = AreLinesRun image lines ran.volume (string_bytes ran.text) ran.whole ran.shown
+AreLinesRunAs image lines ran = AreLinesRunUntold image lines ran.volume (string_bytes ran.text) ran.whole ran.shown
 
 -- the same, where the answers are in pieces
 abbrev pub AreLinesRunInPieces : List ℕ → List ScriptLine → RanInPieces → Type 0
-AreLinesRunInPieces image lines ran = AreLinesRun image lines ran.volume (text_of_pieces ran.answers) ran.whole ran.shown
+AreLinesRunInPieces image lines ran = AreLinesRun image lines ran.volume (text_of_pieces ran.answers) ran.whole ran.shown ran.answers.replies.workers.items
 
 -- the same of what was made, before the answers have their text
 abbrev pub AreLinesMade : List ℕ → List ScriptLine → Made → Type 0
 AreLinesMade image lines made =
     AreLinesRun image lines made.volume (answers_text (kept_replies made.replies) made.lines.items) (is_whole (kept_replies made.replies) made.lines.items) made.shown
+    made.replies.workers.items
 
 -- a script reads as lines, and these were run on a sound image
 pub record IsScriptRun (now : ℕ) (script image : List ℕ) (volume : ImageValue) (text : List ℕ) (whole shown : Bool) : Type 0 where
   pub lines : List ScriptLine
   pub reads : script_of now script ≡ Ok lines
   pub sound : IsSound image
-  pub ran : AreLinesRun image lines volume text whole shown
+  pub ran : AreLinesRunUntold image lines volume text whole shown
 
 -- the same of what the program hands out
 abbrev pub IsScriptRunAs : ℕ → List ℕ → List ℕ → Ran → Type 0

@@ -8,7 +8,10 @@ use Rattle.hfs_model.specs.declared.reply.Reply.{Reply}
 use Rattle.hfs_shared.specs.declared.item.Item.{Item}
 use Rattle.hfs_shared.specs.Tolds.{ToldState}
 use Rattle.hfs_shared.specs.declared.done.Done.{Done}
-use Rattle.hfs_runs.specs.declared.replies.Replies.{Replies}
+
+-- what workers were answered, each with the list that was published then
+abbrev pub ToldReplies : Type 0
+ToldReplies = List (Vec (Reply × ToldState) Global)
 
 -- each told list is of this history
 abbrev pub AreOf : Book → List (Reply × ToldState) → Type 0
@@ -37,8 +40,3 @@ OfSome P dones = (done : Done) × In done dones × P done.replies.items
 -- where that is so each list that a worker was given covers all that was made until then; otherwise some list covers less
 abbrev pub AreToldWhole : Bool → List Done → Type 0
 AreToldWhole shown dones = MatchBool shown (OfEach AreWhole dones) (OfSome SomeLate dones)
-
--- the same of the lists that are kept with the replies to workers
-abbrev pub AreKeptWhole : Bool → Replies → Type 0
-AreKeptWhole shown replies = MatchBool shown (All (λ (got : Vec (Reply × ToldState) Global). AreWhole got.items) replies.workers.items)
-    ((got : Vec (Reply × ToldState) Global) × In got replies.workers.items × SomeLate got.items)

@@ -7,7 +7,6 @@ ghost use Rattle.hfs_runs.specs.Runs.{IsStartFault};
 ghost use Rattle.hfs_volume.specs.Image.{copy_of};
 ghost use Rattle.hfs_copy.specs.Opened.{IsWorkingOf};
 ghost use Rattle.hfs_runs.specs.NeededRuns.{IsRunOverAs};
-ghost use Rattle.hfs_runs.specs.Tellings.{AreKeptWhole};
 
 use crate::given_back::free_blocks;
 use crate::made_files::script_files;
@@ -49,7 +48,6 @@ pub fn run_needed_at<R: Threads + Wait + Sync, G: Gate + Sync>(
     requires sound { IsSound (copy_of working.read len) }
     requires small { All (λ l. IsSmall l.caller) script }
     ensures ran { IfOk result (IsRunOverAs working.read len script) }
-    ensures told { IfOk result (λ ran. AreKeptWhole ran.shown ran.answers.replies) }
     ensures within { IfOk result (λ ran. AreWithin (changes ran.patch) (len / 512)) }
     ensures err { IfErr result (IsStartFault script) }
 {

@@ -7,7 +7,6 @@ ghost use Rattle.hfs_runs.specs.Pieces.{text_of_pieces};
 ghost use Rattle.hfs_scripts.specs.Scripts.{script_of};
 ghost use Rattle.hfs_commands.specs.Faults.{IsTooMuch};
 ghost use Rattle.hfs_runs.specs.Running.{IsNeededFault, IsNeededRunOf, IsScriptFault};
-ghost use Rattle.hfs_runs.specs.Tellings.{AreKeptWhole};
 ghost use Rattle.hfs_image.specs.Failing.{SomeFailsWithin};
 ghost use Rattle.hfs_source.specs.Images.{OfEach};
 
@@ -168,8 +167,8 @@ impl<S: BlockSource + Watched + Drop> RunImage<S> {
     ) -> Result<RanImage<S>, Fault<'a>>
         requires { All (λ line. IsSmall line.caller) script }
         ensures ran { IfOk result (λ ran. IsNeededRunOf (S.Holds ran.image.source) self.1 script
-            ran.image.patch (text_of_pieces ran.answers) ran.whole ran.shown) }
-        ensures told { IfOk result (λ ran. AreKeptWhole ran.shown ran.answers.replies) }
+            ran.image.patch (text_of_pieces ran.answers) ran.whole ran.shown
+            ran.answers.replies.workers.items) }
         ensures len { IfOk result (λ ran. ran.image.len ≡ self.1) }
         ensures image { IfOk result (λ ran. S.image ran.image.source ≡ S.image self.0) }
         ensures narrows { IfOk result (λ ran. OfEach (S.Holds ran.image.source) (S.Holds self.0)) }

@@ -6,7 +6,6 @@ ghost use Rattle.hfs_shared.specs.Shareds.{IsStart};
 ghost use Rattle.hfs_shared.specs.Works.{AreDone};
 ghost use Rattle.hfs_runs.specs.Asking.{IsSmall};
 ghost use Rattle.hfs_runs.specs.Runs.{IsRunFault, IsScriptRunAs, IsStartFault, AreLinesMade, AreLinesRunAs, AreLinesRunInPieces};
-ghost use Rattle.hfs_runs.specs.Tellings.{AreKeptWhole};
 ghost use Rattle.hfs_runs.specs.Views.{AreViewed};
 
 use crate::answer_text::answers_text;
@@ -123,7 +122,6 @@ fn run_shared<K: Session + Send + Sync, R: Threads + Wait + Sync, G: Gate + Sync
         parts passes.items readers.items }
     requires small { All (λ l. IsSmall l.caller) script }
     ensures ok { IfOk result (AreLinesMade K.base script) }
-    ensures told { IfOk result (λ made. AreKeptWhole made.shown made.replies) }
     ensures err { IfErr result (λ fault. fault ≡ ScriptFault.Memory) }
 {
     let shared = parts.share::<K>();
@@ -154,7 +152,6 @@ fn run_lines<R: Threads + Wait + Sync, G: Gate + Sync>(
 ) -> Result<Made, ScriptFault>
     requires small { All (λ l. IsSmall l.caller) script }
     ensures ok { IfOk result (AreLinesMade volume.current script) }
-    ensures told { IfOk result (λ made. AreKeptWhole made.shown made.replies) }
     ensures err { IfErr result (IsStartFault script) }
 {
     let (parts, passes, viewers) = start(rt, alloc, volume, &script)?;
@@ -237,7 +234,6 @@ pub fn run_volume_in_pieces<R: Threads + Wait + Sync, G: Gate + Sync>(
 ) -> Result<RanInPieces, ScriptFault>
     requires small { All (λ l. IsSmall l.caller) script }
     ensures ok { IfOk result (AreLinesRunInPieces volume.current script) }
-    ensures told { IfOk result (λ ran. AreKeptWhole ran.shown ran.answers.replies) }
     ensures err { IfErr result (IsStartFault script) }
 {
     let Made {

@@ -14,8 +14,7 @@ use Rattle.hfs_runs.specs.Answers.{answers_text, is_whole, kept_replies, replies
 use Rattle.hfs_runs.specs.Asking.{AreNumbered}
 use Rattle.hfs_runs.specs.Tellings.{AreWhole, OfEach}
 use Rattle.hfs_runs.proofs.Small.{viewers_within}
-use Rattle.hfs_runs.proofs.Late.{kept_whole, told_whole}
-use Rattle.hfs_runs.proofs.Working.{AreJobs, AreDone, AreViewings, AreViewed, first_book, told_of, told_within}
+use Rattle.hfs_runs.proofs.Working.{AreJobs, AreDone, AreViewings, AreViewed, first_book, told_of}
 use Rattle.hfs_runs.proofs.Reasons.{ok_is}
 use Rattle.hfs_runs.proofs.OneRun.{begun, ran}
 use Rattle.hfs_shared.proofs.PublishedLawsProved.{published_is_after}
@@ -72,19 +71,6 @@ returns-clause-ok g c =
     let same : kept_replies kept ≡ replies_of c.in-Ok.dones.items c.run_beside-dones.result.1.items = λ i caller. c.in_ok-volume.ensures.replies caller i in
     let shown : IsWhether c.are_all_whole-shown.result (OfEach AreWhole c.in-Ok.dones.items) =
     subst (λ (ds : List Done). IsWhether c.are_all_whole-shown.result (OfEach AreWhole ds)) c.deref.ensures.value c.are_all_whole-shown.ensures in
-    ran (λ (calls : Vec Call Global). calls.items) book g.K.Session.base script c.in_ok-volume.volume (answers_text (kept_replies kept) asked) (is_whole (kept_replies kept) asked) c.are_all_whole-shown.result asked c.args.passes.items
+    ran (λ (calls : Vec Call Global). calls.items) book g.K.Session.base script c.in_ok-volume.volume (answers_text (kept_replies kept) asked) (is_whole (kept_replies kept) asked) c.are_all_whole-shown.result kept.workers.items asked c.args.passes.items
     c.in_ok-jobs.jobs.items c.in-Ok.dones.items c.in_ok-viewings.viewings.items c.run_beside-dones.result.1.items numbered begins done views viewed
-    (ap (λ (replies : Caller → List Reply). answers_text replies asked) same) (ap (λ (replies : Caller → List Reply). is_whole replies asked) same) published_is_after shown c.in_ok-volume.ensures.ok
-
-pub returns-clause-told : goal.returns-clause-told
-returns-clause-told g c =
-    let dones = c.in-Ok.dones.items in
-    let whole = c.are_all_whole-shown.result in
-    let done : AreDone (λ (calls : Vec Call Global). calls.items) g.K.Session.book g.K.Session.base c.in_ok-jobs.jobs.items dones =
-    record {
-      many = ok_is c.run_beside-dones.result.0 c.in-Ok.dones _ c.in-Ok.is c.run_beside-dones.ensures.dones;
-      each = ok_is c.run_beside-dones.result.0 c.in-Ok.dones _ c.in-Ok.is c.run_beside-dones.ensures.done;
-    } in
-    let shown : IsWhether whole (OfEach AreWhole dones) = subst (λ (ds : List Done). IsWhether whole (OfEach AreWhole ds)) c.deref.ensures.value c.are_all_whole-shown.ensures in
-    kept_whole whole dones c.in_ok-volume.replies c.in_ok-volume.ensures.told
-    (told_whole whole dones (told_within (λ (calls : Vec Call Global). calls.items) g.K.Session.book g.K.Session.base c.in_ok-jobs.jobs.items dones done) shown)
+    (ap (λ (replies : Caller → List Reply). answers_text replies asked) same) (ap (λ (replies : Caller → List Reply). is_whole replies asked) same) published_is_after shown c.in_ok-volume.ensures.told c.in_ok-volume.ensures.ok
