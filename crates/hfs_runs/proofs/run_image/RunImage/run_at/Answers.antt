@@ -41,5 +41,5 @@ returns-in-Ok-run_needed_at-clause-narrows g c = λ image h.
 pub returns-in-Ok-run_needed_at-clause-settled : goal.returns-in-Ok-run_needed_at-clause-settled
 returns-in-Ok-run_needed_at-clause-settled g c = subst (λ s. g.S.Watched.settled s) (sym c.ran_image.ensures.source) c.in-Ok-look_again.ensures.settled
 
-pub returns-in-Err-clause-fault : goal.returns-in-Err-clause-fault
-returns-in-Err-clause-fault g c = started c.args.script c.args.path.entry c.in-Err.fault c.run_fault.result c.run_fault.ensures c.in-Err.ensures.err
+pub returns-clause-fault : goal.returns-clause-fault
+returns-clause-fault g c = started c.args.script c.args.path c.in-Err.fault c.run_fault.result c.run_fault.ensures c.in-Err.ensures.err
