@@ -7,6 +7,7 @@ mod Learning
 mod Late
 mod Working
 mod Counting
+mod Whole
 mod OneRun
 mod KeptReplies
 mod PieceLemmas

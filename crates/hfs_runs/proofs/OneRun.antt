@@ -23,6 +23,7 @@ use Rattle.hfs_runs.specs.Asking.{AreNumbered}
 use Rattle.hfs_runs.specs.Runs.{IsHandedOut, AreLinesRun, AreLinesRunUntold, IsScriptRun}
 use Rattle.hfs_runs.specs.Tellings.{AreWhole, OfEach, ToldReplies}
 use Rattle.hfs_runs.proofs.Late.{told_exactly}
+use Rattle.hfs_runs.proofs.Whole.{answered}
 use Rattle.hfs_runs.proofs.Working.{AreJobs, AreDone, AreViewings, AreViewed, IsEnd, worked_at, made_at, dones_count, passes_count, stand_at, told_within, viewed_at}
 
 all_at : {X : Type 0} (P : X → Type 0) (xs : List X) (i : ℕ) (d : X) → All P xs → i < length xs → P (get_or xs i d)
@@ -62,6 +63,7 @@ ran items book image lines volume text whole shown told asked passes jobs dones 
       numbered = numbered;
       text_is = text_is;
       whole_is = whole_is;
+      answered = answered (replies_of dones ended) lines asked numbered whole whole_is;
       base_is = closed.base_is;
       agrees = closed.agrees;
       wrote = closed.made;

@@ -30,7 +30,7 @@ use Rattle.hfs_runs.specs.declared.numbering.Asked.{Asked}
 use Rattle.hfs_runs.specs.declared.running.Made.{Made}
 use Rattle.hfs_runs.specs.declared.running.Ran.{Ran}
 use Rattle.hfs_runs.specs.declared.running.RanInPieces.{RanInPieces}
-use Rattle.hfs_runs.specs.Answers.{answers_text, is_whole, kept_replies}
+use Rattle.hfs_runs.specs.Answers.{AreAnswered, answers_text, is_whole, kept_replies}
 use Rattle.hfs_runs.specs.Asking.{AreNumbered}
 use Rattle.hfs_runs.specs.Jobs.{has_viewer}
 use Rattle.hfs_runs.specs.Pieces.{text_of_pieces}
@@ -105,6 +105,7 @@ pub record AreLinesRun (image : List ℕ) (lines : List ScriptLine) (volume : Im
   pub numbered : AreNumbered (map (λ (line : ScriptLine). line.caller) lines) asked
   pub text_is : text ≡ answers_text replies asked
   pub whole_is : whole ≡ is_whole replies asked
+  pub answered : AreAnswered whole replies lines
   pub base_is : volume.base ≡ image
   pub agrees : AgreesBut volume.written image volume.current
   pub wrote : HaveMadeOf image journal (stage_of volume)
