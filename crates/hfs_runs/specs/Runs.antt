@@ -91,11 +91,11 @@ pub record IsHandedOut (base : List ℕ) (volume : ImageValue) (dones : List Don
   pub closed : IsClosed base volume journal shown (map (λ (done : Done). done.pass) dones) before afterwards
   pub learned : OfEach (AllBegin before.list) dones
 
--- what a run of these lines on an image made: the volume afterwards, the text of the answers, whether all lines were answered, and
--- whether each change was shown at once, and what workers were told. The volume's image agrees with the given one, except for the blocks of forks that calls of a legal
--- journal wrote, which made it one after the other, and its volume is the one after that journal, which has as many entries of each worker
--- as it got replies, and none of anybody else. Each change was shown at once exactly where each list that a worker was given covers all calls
--- that were made until then, and then each reply to a worker is in that journal; otherwise some list covers fewer of them.
+-- what a run of these lines on an image made: the volume afterwards, the text of the answers, whether all lines were answered, whether each
+-- change was shown at once, and what workers were told. The volume's image agrees with the given one, except for the blocks of forks that
+-- calls of a legal journal wrote, which made it one after the other, and its volume is the one after that journal, which has as many entries
+-- of each worker as it got replies, and none of anybody else. Each change was shown at once exactly where each list that a worker was given
+-- covers all calls that were made until then, otherwise some list covers fewer; where it was, each reply to a worker is in that journal.
 pub record AreLinesRun (image : List ℕ) (lines : List ScriptLine) (volume : ImageValue) (text : List ℕ) (whole shown : Bool) (told : ToldReplies) : Type 0 where
   pub book : Book
   pub journal : List Entry
