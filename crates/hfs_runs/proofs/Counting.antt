@@ -33,19 +33,19 @@ viewer_counted old new workers number raised = record { here = raised.here; othe
 
 -- ---- the counts so far
 
-same_caller : (a b : Caller) → is_same a b ≡ true → a ≡ b
+pub same_caller : (a b : Caller) → is_same a b ≡ true → a ≡ b
 same_caller (Worker m) (Worker n) h = ap Worker (eqb-true m n h)
 same_caller (Viewer m) (Viewer n) h = ap Viewer (eqb-true m n h)
 same_caller (Worker m) (Viewer n) h = absurd (cc h)
 same_caller (Viewer m) (Worker n) h = absurd (cc h)
 
 -- one more of this caller, or none
-times_one : (caller : Caller) (callers : List Caller) (i : ℕ) (none : Caller) → i < length callers → is_same (get_or callers i none) caller ≡ true
+pub times_one : (caller : Caller) (callers : List Caller) (i : ℕ) (none : Caller) → i < length callers → is_same (get_or callers i none) caller ≡ true
     → times caller (take (i + 1) callers) ≡ times caller (take i callers) + 1
 unfolding times
 times_one caller callers i none below same = count_by_more_yes (λ other. is_same other caller) callers i none below same
 
-times_other : (caller : Caller) (callers : List Caller) (i : ℕ) (none : Caller) → i < length callers → is_same (get_or callers i none) caller ≡ false
+pub times_other : (caller : Caller) (callers : List Caller) (i : ℕ) (none : Caller) → i < length callers → is_same (get_or callers i none) caller ≡ false
     → times caller (take (i + 1) callers) ≡ times caller (take i callers)
 unfolding times
 times_other caller callers i none below other = count_by_more_no (λ other. is_same other caller) callers i none below other

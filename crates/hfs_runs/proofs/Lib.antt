@@ -4,8 +4,10 @@ pub mod Small
 mod Texts
 mod OneJournal
 mod Learning
+mod Late
 mod Working
 mod Counting
+mod Whole
 mod OneRun
 mod KeptReplies
 mod PieceLemmas

@@ -16,6 +16,7 @@ use Rattle.hfs_model.specs.Runs.{after}
 use Rattle.hfs_model.specs.Volume.{Volume}
 use Rattle.hfs_check.specs.VolumeOf.{volume_of}
 use Rattle.hfs_shared.specs.Tolds.{ToldState}
+use Rattle.hfs_shared.specs.declared.done.Done.{Done}
 use Rattle.hfs_volume.specs.Serving.{free_in, depth_in}
 use Rattle.hfs_model.specs.Alike.{bare_volume, no_file, reads_fork}
 use Rattle.hfs_model.proofs.AlikeLawsProved.{alike_after, alike_wanting, alike_within}
@@ -29,7 +30,7 @@ use Rattle.hfs_shared.specs.Desks.{PassState, pass_state}
 use Rattle.hfs_shared.specs.Shareds.{IsReplyOf}
 use Rattle.hfs_shared.specs.Works.{IsWork}
 use Rattle.hfs_runs.specs.Naming.{line_calls, read_forks, uses_fork}
-use Rattle.hfs_runs.specs.OnImage.{AreOfWhereRead, IsForkReplyIn, IsLinesCopy, IsReplyIn, IsReplyOnImage, IsSomeReplyOnImage, SavedIsMade, WorkersReadTheImage}
+use Rattle.hfs_runs.specs.OnImage.{AreOfWhereRead, AreWorkersOnImage, IsForkReplyIn, IsLinesCopy, IsReplyIn, IsReplyOnImage, IsSomeReplyOnImage, SavedIsMade, WorkersReadTheImage}
 use Rattle.hfs_runs.proofs.Answered.{fork-outcome, other-outcome}
 use Rattle.hfs_fields.proofs.MemberLemmas.{in-at}
 
@@ -148,27 +149,38 @@ module _ (lines : List ScriptLine) (copy image : List ℕ) (is : IsLinesCopy lin
         let call = get_or (calls_of (Worker worker) lines) k c in
         (made.0, on-image made.0 call (get_or replies k r) (call-there k c lt) (subst (λ (x : Reply). IsReplyOf copy (after (volume_of copy) made.0) call x) is_it made.1.reply))
 
+-- a member of a list that isn't empty
+with-one : (dones : List Done) (P : Type 0) → 0 < length dones → (Done → P) → P
+with-one [] P some f = let no : ⊥ = omega (arith, some) in absurd no
+with-one (d ∷ dones) P some f = f d
+
 pub workers_read_the_image : WorkersReadTheImage
-workers_read_the_image copy image lines volume text whole shown is ran place below =
-    let worker = place + 1 in
-    let replies = ran.replies (Worker worker) in
-    let worked = ran.worked place below in
-    record {
-      each = λ k call reply lt. reply-at lines copy image is ran.book worker worked.0 worked.1 replies worked.2 worked.3 k call reply lt;
-      stand = λ yes k call reply lt.
-          let s = ran.stands yes place below k call reply lt in (
-            s.before,
-            s.behind,
-            s.whole,
-            on-image lines copy image is s.before (get_or (calls_of (Worker worker) lines) k call) (get_or replies k reply)
-                (call-there lines copy image is ran.book worker worked.0 worked.1 replies worked.2 worked.3 k call lt) s.reply_is,
-          );
-    }
+workers_read_the_image copy image lines volume text whole shown told is ran place below =
+    with-one ran.dones (AreWorkersOnImage lines copy image shown ran.journal (place + 1) (ran.replies (Worker (place + 1)))) (omega (arith, below, ran.many)) by
+  where
+    by : Done → AreWorkersOnImage lines copy image shown ran.journal (place + 1) (ran.replies (Worker (place + 1)))
+    by none =
+        let worker = place + 1 in
+        let replies = ran.replies (Worker worker) in
+        let worked = ran.worked place none below in
+        let done = get_or ran.dones place none in
+        record {
+          each = λ k call reply lt.
+              reply-at lines copy image is ran.book worker done.replies.items done.pass replies worked.0 worked.1.work k call reply lt;
+          stand = λ yes k call reply lt.
+              let s = ran.stands yes place below k call reply lt in (
+                s.before,
+                s.behind,
+                s.whole,
+                on-image lines copy image is s.before (get_or (calls_of (Worker worker) lines) k call) (get_or replies k reply)
+                    (call-there lines copy image is ran.book worker done.replies.items done.pass replies worked.0 worked.1.work k call lt) s.reply_is,
+              );
+        }
 
 -- ---- what goes out
 
 pub saved_is_made : SavedIsMade
-saved_is_made copy image lines patch text whole shown over keep forks = record {
+saved_is_made copy image lines patch text whole shown told over keep forks = record {
   keep = keep;
   named = forks.named;
   made = sym (alike_after keep (volume_of copy) (volume_of image) over.ran.journal forks.alike)

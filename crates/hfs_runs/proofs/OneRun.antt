@@ -20,9 +20,11 @@ use Rattle.hfs_runs.specs.declared.numbering.Asked.{Asked}
 use Rattle.hfs_runs.specs.declared.viewing.Viewing.{Viewing}
 use Rattle.hfs_runs.specs.Answers.{answers_text, is_whole, replies_of}
 use Rattle.hfs_runs.specs.Asking.{AreNumbered}
-use Rattle.hfs_runs.specs.Runs.{IsHandedOut, AreLinesRun, IsScriptRun}
-use Rattle.hfs_runs.specs.Tellings.{AreWhole, OfEach}
-use Rattle.hfs_runs.proofs.Working.{AreJobs, AreDone, AreViewings, AreViewed, IsEnd, worked_at, made_at, passes_count, stand_at, viewed_at}
+use Rattle.hfs_runs.specs.Runs.{IsHandedOut, AreLinesRun, AreLinesRunUntold, IsScriptRun}
+use Rattle.hfs_runs.specs.Tellings.{AreWhole, OfEach, ToldReplies}
+use Rattle.hfs_runs.proofs.Late.{told_exactly}
+use Rattle.hfs_runs.proofs.Whole.{answered}
+use Rattle.hfs_runs.proofs.Working.{AreJobs, AreDone, AreViewings, AreViewed, IsEnd, worked_at, made_at, dones_count, passes_count, stand_at, told_within, viewed_at}
 
 all_at : {X : Type 0} (P : X → Type 0) (xs : List X) (i : ℕ) (d : X) → All P xs → i < length xs → P (get_or xs i d)
 all_at P xs i d all below = all i d below
@@ -42,11 +44,12 @@ when_true : {P : Type 0} (b : Bool) → b ≡ true → IsWhether b P → P
 when_true true is h = h
 when_true false is h = absurd (cc is)
 
-pub ran : {V : Type 0} (items : V → List Call) (book : Book) (image : List ℕ) (lines : List ScriptLine) (volume : ImageValue) (text : List ℕ) (whole shown : Bool) (asked : List Asked) (passes : List PassState)
+pub ran : {V : Type 0} (items : V → List Call) (book : Book) (image : List ℕ) (lines : List ScriptLine) (volume : ImageValue) (text : List ℕ) (whole shown : Bool) (told : ToldReplies) (asked : List Asked) (passes : List PassState)
     (jobs : List (PassState × V)) (dones : List Done) (begun ended : List Viewing) → AreNumbered (map (λ (line : ScriptLine). line.caller) lines) asked → AreJobs items lines (workers lines) passes jobs
     → AreDone items book image jobs dones → AreViewings book (volume_of image) lines (viewers lines) begun → AreViewed begun ended → text ≡ answers_text (replies_of dones ended) asked
-    → whole ≡ is_whole (replies_of dones ended) asked → PublishedIsAfter → IsWhether shown (OfEach AreWhole dones) → IsHandedOut image volume dones → AreLinesRun image lines volume text whole shown
-ran items book image lines volume text whole shown asked passes jobs dones begun ended numbered begins done views viewed text_is whole_is law shown_is out =
+    → whole ≡ is_whole (replies_of dones ended) asked → PublishedIsAfter → IsWhether shown (OfEach AreWhole dones) → told ≡ map (λ (done : Done). done.replies) dones → IsHandedOut image volume dones
+    → AreLinesRun image lines volume text whole shown told
+ran items book image lines volume text whole shown told asked passes jobs dones begun ended numbered begins done views viewed text_is whole_is law shown_is told_is out =
     let opening = volume_of image in
     let closed = out.closed in
     let end : IsEnd opening out.journal out.shown out.before.list out.afterwards.list dones =
@@ -54,11 +57,13 @@ ran items book image lines volume text whole shown asked passes jobs dones begun
     record {
       book = book;
       journal = out.journal;
+      dones = dones;
       replies = replies_of dones ended;
       asked = asked;
       numbered = numbered;
       text_is = text_is;
       whole_is = whole_is;
+      answered = answered (replies_of dones ended) lines asked numbered whole whole_is;
       base_is = closed.base_is;
       agrees = closed.agrees;
       wrote = closed.made;
@@ -66,19 +71,22 @@ ran items book image lines volume text whole shown asked passes jobs dones begun
       follows = closed.follows;
       made = λ place below. made_at items book image lines (workers lines) passes jobs dones out.journal begins done closed.all place below;
       others = subst (λ (n : ℕ). HasNoOthers n out.journal) (passes_count items book image lines passes jobs dones begins done) closed.others;
-      worked = λ place below. worked_at items book image lines (workers lines) passes jobs dones begins done place below;
+      many = dones_count items book image lines passes jobs dones begins done;
+      worked = λ place none below. worked_at items book image lines (workers lines) passes jobs dones begins done place none below;
       viewed = λ place below. viewed_at book opening lines (viewers lines) begun ended views viewed place below;
+      told_is = told_is;
+      shown_is = told_exactly shown dones (told_within items book image jobs dones done) shown_is;
       stands = λ yes place below.
           stand_at items book image lines (workers lines) passes jobs dones begins done law out.journal out.shown out.before.list out.afterwards.list end (when_true shown yes shown_is) place below;
     }
 
 -- the same run, by a text and a test that are the same
-pub retold : (image : List ℕ) (lines : List ScriptLine) (volume : ImageValue) (text told : List ℕ) (whole all shown : Bool) → told ≡ text → all ≡ whole
-    → AreLinesRun image lines volume text whole shown → AreLinesRun image lines volume told all shown
-retold image lines volume text told whole all shown same same_all run =
-    subst (λ (p : List ℕ × Bool). AreLinesRun image lines volume p.0 p.1 shown) (λ i. (sym same i, sym same_all i)) run
+pub retold : (image : List ℕ) (lines : List ScriptLine) (volume : ImageValue) (text other : List ℕ) (whole all shown : Bool) (told : ToldReplies) → other ≡ text → all ≡ whole
+    → AreLinesRun image lines volume text whole shown told → AreLinesRun image lines volume other all shown told
+retold image lines volume text other whole all shown told same same_all run =
+    subst (λ (p : List ℕ × Bool). AreLinesRun image lines volume p.0 p.1 shown told) (λ i. (sym same i, sym same_all i)) run
 
 pub is_run : (now : ℕ) (script image : List ℕ) (lines : List ScriptLine) (base : List ℕ) (volume : ImageValue) (text : List ℕ) (whole shown : Bool) → script_of now script ≡ Ok lines → IsSound image
-    → base ≡ image → AreLinesRun base lines volume text whole shown → IsScriptRun now script image volume text whole shown
+    → base ≡ image → AreLinesRunUntold base lines volume text whole shown → IsScriptRun now script image volume text whole shown
 is_run now script image lines base volume text whole shown reads sound same ran =
-    record { lines = lines; reads = reads; sound = sound; ran = subst (λ (b : List ℕ). AreLinesRun b lines volume text whole shown) same ran }
+    record { lines = lines; reads = reads; sound = sound; ran = subst (λ (b : List ℕ). AreLinesRunUntold b lines volume text whole shown) same ran }

@@ -1,5 +1,5 @@
 -- Why a script was not run, out of the reason of the step that failed.
-use Rattle.std.proofs.Common.{◌≡◌, ◌≢◌, ◌⊎◌, ℕ, List, Some, Result, Ok, Err, refl, sym, subst, ⊎_elim}
+use Rattle.std.proofs.Common.{◌≡◌, ◌≢◌, ◌⊎◌, inl, inr, ℕ, true, List, Some, Result, Ok, Err, refl, sym, subst, ⊎_elim}
 use Rattle.std.specs.Prelude.{IfOk, IfErr}
 use Rattle.hfs_check.specs.declared.mount_fault.MountFault.{MountFault}
 use Rattle.hfs_check.specs.declared.mount_fault.MountFault.TheVariants as mount
@@ -8,11 +8,13 @@ use Rattle.hfs_check.specs.Faults.{fault_of}
 use Rattle.hfs_check.specs.Sound.{IsSound}
 use Rattle.hfs_scripts.specs.declared.fault.ScriptFault.{ScriptFault as ReadFault}
 use Rattle.hfs_scripts.specs.declared.fault.ScriptFault.TheVariants as read
+use Rattle.hfs_scripts.specs.declared.lines.ScriptLine.{ScriptLine}
 use Rattle.hfs_scripts.specs.Scripts.{script_of, IsFaultOf as IsReadFault}
 use Rattle.hfs_runs.specs.declared.script_fault.ScriptFault.{ScriptFault}
 use Rattle.hfs_runs.specs.declared.script_fault.ScriptFault.TheVariants as run
 use Rattle.hfs_runs.specs.ScriptFaults.{fault_of_script}
-use Rattle.hfs_runs.specs.Runs.{IsScript, IsMountFault, IsRunFault}
+use Rattle.hfs_runs.specs.Jobs.{has_viewer}
+use Rattle.hfs_runs.specs.Runs.{IsScript, IsMountFault, IsRunFault, IsStartFault}
 
 -- ---- of mounting
 
@@ -45,9 +47,16 @@ mount_fault now script image (run.Refused why) reads h = (reads, h)
 mount_fault now script image run.NoPlace reads h = absurd h
 mount_fault now script image run.Memory reads h = tt
 
-pub start_fault : (now : ℕ) (script image : List ℕ) (fault : ScriptFault) → IsScript now script → IsSound image → (fault ≡ run.NoPlace) ⊎ (fault ≡ run.Memory) → IsRunFault now script image fault
-start_fault now script image fault reads sound h =
-    ⊎_elim (λ (e : fault ≡ run.NoPlace). subst (IsRunFault now script image) (sym e) (reads, sound)) (λ (e : fault ≡ run.Memory). subst (IsRunFault now script image) (sym e) tt) h
+-- viewers read where a line is a viewer's
+pub read_start : (lines : List ScriptLine) → has_viewer lines ≡ true → (fault : ScriptFault) → (fault ≡ run.NoPlace) ⊎ (fault ≡ run.Memory) → IsStartFault lines fault
+read_start lines used fault h = ⊎_elim (λ (e : fault ≡ run.NoPlace). inl (e, used)) (λ (e : fault ≡ run.Memory). inr e) h
+
+pub start_fault : (now : ℕ) (script image : List ℕ) (lines : List ScriptLine) → script_of now script ≡ Ok lines → IsSound image → (fault : ScriptFault) → IsStartFault lines fault
+    → IsRunFault now script image fault
+start_fault now script image lines reads sound fault h = ⊎_elim
+    (λ (e : (fault ≡ run.NoPlace) × (has_viewer lines ≡ true)). subst (IsRunFault now script image) (sym e.0) ((lines, reads, e.1), sound))
+    (λ (e : fault ≡ run.Memory). subst (IsRunFault now script image) (sym e) tt)
+    h
 
 pub memory_fault : (now : ℕ) (script image : List ℕ) (fault : ScriptFault) → fault ≡ run.Memory → IsRunFault now script image fault
 memory_fault now script image fault e = subst (IsRunFault now script image) (sym e) tt

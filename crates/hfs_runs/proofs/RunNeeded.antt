@@ -1,10 +1,12 @@
 -- What was read of an image for a run, and what the run made of it.
 use Rattle.std.proofs.Common.{◌≡◌, ◌⊎◌, inl, inr, ⊎_elim, ℕ, ◌/◌, Bool, true, List, length, Some, None, sym, ap, subst, ◌∙◌}
+use Rattle.std.specs.Borrow.{Bor}
 use Rattle.hfs_blocks.specs.Layers.{Numbered}
 use Rattle.hfs_check.specs.Sound.{IsSound, IsImageLength}
 use Rattle.hfs_source.specs.Images.{OfEach}
 use Rattle.hfs_source.specs.Seen.{IsSeen, SeesMore}
 use Rattle.hfs_runs.specs.declared.needed_running.NeededRan.{NeededRan}
+use Rattle.hfs_runs.specs.Jobs.{has_viewer}
 use Rattle.hfs_runs.specs.NamedForks.{HasNamedForks}
 use Rattle.hfs_runs.specs.Naming.{read_forks}
 use Rattle.hfs_runs.specs.OnImage.{IsLinesCopy}
@@ -15,6 +17,7 @@ use Rattle.hfs_runs.specs.declared.script_fault.ScriptFault.{ScriptFault}
 use Rattle.hfs_runs.specs.declared.script_fault.ScriptFault.TheVariants as run
 use Rattle.hfs_runs.specs.Pieces.{text_of_pieces}
 use Rattle.hfs_runs.specs.Runs.{IsStartFault}
+use Rattle.hfs_runs.specs.Tellings.{ToldReplies}
 use Rattle.hfs_scripts.specs.declared.lines.ScriptLine.{ScriptLine}
 use Rattle.hfs_source.specs.Sparse.{sparse, IsOf}
 use Rattle.hfs_volume.specs.Image.{copy_of}
@@ -25,12 +28,12 @@ use Rattle.hfs_copy.proofs.ReadWork.{opened-sound, opened-copy}
 use Rattle.hfs_commands.specs.declared.fault.Fault.{Fault}
 use Rattle.hfs_commands.specs.declared.fault.Fault.TheVariants as fault
 use Rattle.hfs_runs.specs.RunFaults.{fault_of_run}
-use Rattle.hfs_runs.specs.Running.{IsNeededRunOf}
+use Rattle.hfs_runs.specs.Running.{IsNeededFault, IsNeededRunOf}
 
-pub started : (why : ScriptFault) (told : Fault) → told ≡ fault_of_run why → IsStartFault why → (told ≡ fault.NoPlace) ⊎ (told ≡ fault.NoMemory)
-started why told is start = ⊎_elim
-    (λ (no_place : why ≡ run.NoPlace). inl (is ∙ ap fault_of_run no_place))
-    (λ (memory : why ≡ run.Memory). inr (is ∙ ap fault_of_run memory))
+pub started : (lines : List ScriptLine) (path : Bor (List ℕ)) (why : ScriptFault) (told : Fault) → told ≡ fault_of_run why → IsStartFault lines why → IsNeededFault lines path told
+started lines path why told is start = ⊎_elim
+    (λ (no_place : (why ≡ run.NoPlace) × (has_viewer lines ≡ true)). inr (inl (is ∙ ap fault_of_run no_place.0, no_place.1)))
+    (λ (memory : why ≡ run.Memory). inr (inr (is ∙ ap fault_of_run memory)))
     start
 
 module _ (Held Holds : List ℕ → Type 0) (len : ℕ) (old new : WorkingVolume) (is : IsRunnable Held len old) where
@@ -64,28 +67,30 @@ module _ (Held Holds : List ℕ → Type 0) (len : ℕ) (old new : WorkingVolume
         → IsOf image new.read → IsLinesCopy lines (copy_of new.read len) image
     lines-copy lines forks image long of = named_forks_are_the_images lines len new image mountable-new right forks long of
 
-    pub needed-run : (lines : List ScriptLine) (patch : Numbered) (text : List ℕ) (all shown : Bool) (ran : NeededRan) → patch ≡ ran.patch → text ≡ text_of_pieces ran.answers
-        → all ≡ ran.whole → shown ≡ ran.shown → IsRunOverAs new.read len lines ran
+    pub needed-run : (lines : List ScriptLine) (patch : Numbered) (text : List ℕ) (all shown : Bool) (told : ToldReplies) (ran : NeededRan) → patch ≡ ran.patch → text ≡ text_of_pieces ran.answers
+        → all ≡ ran.whole → shown ≡ ran.shown → told ≡ ran.answers.replies.workers.items → IsRunOverAs new.read len lines ran
         → (read_forks lines ≡ true → HasNamedForks (sparse new.read) lines new.read) → IsSeen Holds new.read
-        → IsNeededRunOf Holds len lines patch text all shown
-    needed-run lines patch text all shown ran same-patch same-text same-all same-shown over forks seen = record {
+        → IsNeededRunOf Holds len lines patch text all shown told
+    needed-run lines patch text all shown told ran same-patch same-text same-all same-shown same-told over forks seen = record {
       read = new.read;
       ran = here;
       forks = forks;
       seen = seen;
       same = lines-copy lines forks;
       answered = λ image long of.
-          workers_read_the_image (copy_of new.read len) image lines here.over.volume text all shown (lines-copy lines forks image long of) here.over.ran;
+          workers_read_the_image (copy_of new.read len) image lines here.over.volume text all shown told (lines-copy lines forks image long of) here.over.ran;
       copy = λ image long of. opened-copy (Some image) len right new (working-of image of) long;
       made = λ image long of used.
-          saved_is_made (copy_of new.read len) image lines patch text all shown here.over here.keep (here.forks image long of used (forks used));
+          saved_is_made (copy_of new.read len) image lines patch text all shown told here.over here.keep (here.forks image long of used (forks used));
     }
       where
-        here : IsRunOver new.read len lines patch text all shown
-        here = subst (λ (b : Bool). IsRunOver new.read len lines patch text all b) (sym same-shown)
-            (subst (λ (b : Bool). IsRunOver new.read len lines patch text b ran.shown) (sym same-all)
-            (subst (λ (t : List ℕ). IsRunOver new.read len lines patch t ran.whole ran.shown) (sym same-text)
-            (subst (λ (p : Numbered). IsRunOver new.read len lines p (text_of_pieces ran.answers) ran.whole ran.shown) (sym same-patch) over)))
+        here : IsRunOver new.read len lines patch text all shown told
+        here = subst (λ (l : ToldReplies). IsRunOver new.read len lines patch text all shown l) (sym same-told)
+            (subst (λ (b : Bool). IsRunOver new.read len lines patch text all b ran.answers.replies.workers.items) (sym same-shown)
+            (subst (λ (b : Bool). IsRunOver new.read len lines patch text b ran.shown ran.answers.replies.workers.items) (sym same-all)
+            (subst (λ (t : List ℕ). IsRunOver new.read len lines patch t ran.whole ran.shown ran.answers.replies.workers.items) (sym same-text)
+            (subst (λ (p : Numbered). IsRunOver new.read len lines p (text_of_pieces ran.answers) ran.whole ran.shown ran.answers.replies.workers.items)
+            (sym same-patch) over))))
 
 -- what was read of each image, and forks since, is of each that holds when it was looked at again
 pub seen-then : {first fetched looked : List ℕ → Type 0} {old new : Numbered} → IsSeen first old → SeesMore first fetched old new → OfEach looked fetched → IsSeen looked new

@@ -28,6 +28,7 @@ use Rattle.hfs_scripts.specs.declared.lines.ScriptLine.{ScriptLine}
 use Rattle.hfs_runs.specs.declared.script_fault.ScriptFault.{ScriptFault}
 use Rattle.hfs_runs.specs.declared.script_fault.ScriptFault.TheVariants as run
 use Rattle.hfs_runs.specs.Runs.{AreLinesRun, IsStartFault}
+use Rattle.hfs_runs.specs.Tellings.{ToldReplies}
 use Rattle.hfs_copy.specs.GivenBack.{AreChangedZeros, AreFreeIn, AreKeptOf, IsChangedZeros, IsFreeBlock, IsGivenBack}
 use Rattle.hfs_copy.specs.Keeping.{AreKept, LieIn}
 use Rattle.hfs_runs.specs.NamedForks.{AreAmong, AreForksOf, AreIdsOf, AreScriptFiles, HasForksOf, HasMet, HasNamedForks, IsForkBlock, IsScriptFile, file_blocks}
@@ -42,25 +43,25 @@ use Rattle.hfs_runs.proofs.MadeFiles.{kept-met, script-kept}
 use Rattle.hfs_runs.proofs.MadeForks.{file-given}
 
 -- want of memory is why a run was not begun
-pub passed-on : {T : Type 0} (r : Result T ScriptFault) (P : ScriptFault → Type 0) → ((fault : ScriptFault) → P fault → fault ≡ run.Memory) → IsErrAnd r P
-    → IfErr r IsStartFault
-passed-on (Ok x) P memory h = tt
-passed-on (Err fault) P memory h = inr (memory fault h)
+pub passed-on : {T : Type 0} (lines : List ScriptLine) (r : Result T ScriptFault) (P : ScriptFault → Type 0) → ((fault : ScriptFault) → P fault → fault ≡ run.Memory) → IsErrAnd r P
+    → IfErr r (IsStartFault lines)
+passed-on lines (Ok x) P memory h = tt
+passed-on lines (Err fault) P memory h = inr (memory fault h)
 
 -- what lies in the volume as it is now lies in it as it was mounted
-pub among-base : (copy : List ℕ) (lines : List ScriptLine) (volume : ImageValue) (text : List ℕ) (all shown : Bool) → AreLinesRun copy lines volume text all shown
+pub among-base : (copy : List ℕ) (lines : List ScriptLine) (volume : ImageValue) (text : List ℕ) (all shown : Bool) (told : ToldReplies) → AreLinesRun copy lines volume text all shown told
     → (runs : List Run) → LieIn (block_count volume.current) runs → LieIn (block_count volume.base) runs
-among-base copy lines volume text all shown ran runs within =
+among-base copy lines volume text all shown told ran runs within =
     subst (λ (n : ℕ). LieIn n runs) (ap (λ (n : ℕ). n / 512) (ran.agrees.len ∙ ap (λ (bytes : List ℕ). length bytes) (sym ran.base_is))) within
 
 -- where the forks lie
-pub lie-in : (copy : List ℕ) (lines : List ScriptLine) (volume : ImageValue) (text : List ℕ) (all shown : Bool) → AreLinesRun copy lines volume text all shown
+pub lie-in : (copy : List ℕ) (lines : List ScriptLine) (volume : ImageValue) (text : List ℕ) (all shown : Bool) (told : ToldReplies) → AreLinesRun copy lines volume text all shown told
     → (files : Option ScriptFiles) (forks : List Run)
     → IfSome files (λ (f : ScriptFiles).
     AreForksOf (block_at volume.current) (IsScriptFile f) (block_count volume.current) (catalog_in (block_at volume.current)) forks)
     → IfNone files (forks ≡ []) → LieIn (block_count volume.base) forks
-lie-in copy lines volume text all shown ran None forks made none = subst (LieIn (block_count volume.base)) (sym none) tt
-lie-in copy lines volume text all shown ran (Some files) forks made none = among-base copy lines volume text all shown ran forks made.within
+lie-in copy lines volume text all shown told ran None forks made none = subst (LieIn (block_count volume.base)) (sym none) tt
+lie-in copy lines volume text all shown told ran (Some files) forks made none = among-base copy lines volume text all shown told ran forks made.within
 
 -- of no blocks none are of zeros
 none-zeros : (volume : ImageValue) (zeros : List ℕ) → AreChangedZeros volume [] zeros → zeros ≡ []
@@ -68,7 +69,7 @@ none-zeros volume [] are = refl
 none-zeros volume (n ∷ zeros) are = absurd are.each.0.0
 
 module _ (read : Numbered) (len count : ℕ) (mdb : Mdb) (trees : VolumeTrees) (is : IsWorking None (len / 512) read count mdb trees) (sound : IsSound (copy_of read len))
-    (lines : List ScriptLine) (volume : ImageValue) (text : List ℕ) (all shown : Bool) (ran : AreLinesRun (copy_of read len) lines volume text all shown)
+    (lines : List ScriptLine) (volume : ImageValue) (text : List ℕ) (all shown : Bool) (told : ToldReplies) (ran : AreLinesRun (copy_of read len) lines volume text all shown told)
     (forks free : List Run) (kept : Numbered) (kept-makes : patched kept volume.base ≡ volume.current)
     (kept-of : AreKeptOf volume (flat_map run_of forks) (flat_map run_of free) kept) where
   abbrev copy : List ℕ
@@ -86,11 +87,11 @@ module _ (read : Numbered) (len count : ℕ) (mdb : Mdb) (trees : VolumeTrees) (
   are : AreKept (block_count copy) among (block_at copy) (block_at volume.current) kept
   are = subst (λ (base : List ℕ). AreKept (block_count base) among (block_at base) (block_at volume.current) kept) ran.base_is kept-of.kept
 
-  abbrev over : AreLinesRunOver (copy_of read len) lines kept text all shown
+  abbrev over : AreLinesRunOver (copy_of read len) lines kept text all shown told
   over = record { volume = volume; ran = ran; makes = sym makes }
 
   -- where no line reads or writes a fork
-  pub over-none : read_forks lines ≡ false → forks ≡ [] → free ≡ [] → IsRunOver read len lines kept text all shown × AreWithin (changes kept) (len / 512)
+  pub over-none : read_forks lines ≡ false → forks ≡ [] → free ≡ [] → IsRunOver read len lines kept text all shown told × AreWithin (changes kept) (len / 512)
   over-none unused none none-free = (
     record {
       over = over;
@@ -160,7 +161,7 @@ module _ (read : Numbered) (len count : ℕ) (mdb : Mdb) (trees : VolumeTrees) (
         (each-mono (IsForkBlock (block_at volume.current) (IsScriptFile files)) (IsOwnZeros keep volume) (flat_map run_of forks) own-fork of-forks.only)
         (each-mono (λ n. In n (flat_map run_of free) × IsChangedZeros volume n) (IsOwnZeros keep volume) kept-of.zeros own-free kept-of.are.each)
 
-    pub over-some : IsRunOver read len lines kept text all shown × AreWithin (changes kept) (len / 512)
+    pub over-some : IsRunOver read len lines kept text all shown told × AreWithin (changes kept) (len / 512)
     over-some = (
       record {
         over = over;
@@ -183,6 +184,6 @@ module _ (read : Numbered) (len count : ℕ) (mdb : Mdb) (trees : VolumeTrees) (
       → IfSome files (λ (f : ScriptFiles).
       AreForksOf (block_at volume.current) (IsScriptFile f) (block_count volume.current) (catalog_in (block_at volume.current)) forks)
       → IfNone files (forks ≡ []) → AreFreeIn (block_at volume.current) (block_count volume.current) free → IfNone files (free ≡ [])
-      → IsRunOver read len lines kept text all shown × AreWithin (changes kept) (len / 512)
+      → IsRunOver read len lines kept text all shown told × AreWithin (changes kept) (len / 512)
   run-over None unused made none free-in none-free = over-none unused none none-free
   run-over (Some files) of-files made none free-in none-free = over-some files of-files made free-in

@@ -21,13 +21,14 @@ use Rattle.hfs_shared.specs.declared.done.Done.{Done}
 use Rattle.hfs_shared.specs.Closings.{AreAllPasses}
 use Rattle.hfs_shared.specs.Desks.{PassState, pass_state}
 use Rattle.hfs_shared.specs.Shareds.{AreFirstPasses}
-use Rattle.hfs_shared.specs.Works.{IsWork, IsDone}
+use Rattle.hfs_shared.specs.Works.{IsDone}
 use Rattle.hfs_runs.specs.declared.viewing.Viewing.{Viewing}
 use Rattle.hfs_runs.specs.Answers.{worker_replies, viewer_replies}
 use Rattle.hfs_runs.specs.Runs.{IsWorked, IsViewedFrom}
 use Rattle.hfs_runs.specs.Tellings.{AreOf, AreWhole, AllBegin, OfEach}
 use Rattle.hfs_runs.specs.Standing.{Stands, AllStand}
 use Rattle.hfs_runs.proofs.OneJournal.{stands}
+use Rattle.hfs_runs.proofs.Late.{AreWithin}
 use Rattle.hfs_runs.specs.Views.{AreReads, IsViewed}
 use Rattle.hfs_runs.proofs.Reading.{reads_book}
 
@@ -56,30 +57,26 @@ replies_at dones place d below =
     let at : place + 1 - 1 ≡ place = omega arith in
     ap (λ (n : ℕ). get_or (map of_done dones) n []) at ∙ get_or-map of_done dones place d [] below
 
--- a job's work, under the pass of its worker
-work_at : {V : Type 0} (items : V → List Call) (book : Book) (base : List ℕ) (lines : List ScriptLine) (workers : ℕ) (passes : List PassState) (jobs : List (PassState × V)) (dones : List Done)
+-- what was done of a job, under the pass of its worker
+done_at : {V : Type 0} (items : V → List Call) (book : Book) (base : List ℕ) (lines : List ScriptLine) (workers : ℕ) (passes : List PassState) (jobs : List (PassState × V)) (dones : List Done)
     → AreJobs items lines workers passes jobs → AreDone items book base jobs dones → (place : ℕ) → place < workers → (d : Done) (j : PassState × V)
-    → IsWork book base (pass_state (place + 1) 1) (calls_of (Worker (place + 1)) lines) (get_or dones place d).pass (get_or dones place d).replies.items
-work_at items book base lines workers passes jobs dones h done place below d j =
+    → IsDone book base (pass_state (place + 1) 1) (calls_of (Worker (place + 1)) lines) (get_or dones place d)
+done_at items book base lines workers passes jobs dones h done place below d j =
     let none = pass_state 0 0 in
     let within : place < length passes = omega (arith, h.first.many) in
     let w = done.each place d j (omega (arith, h.many)) in
     let pass : (get_or jobs place j).0 ≡ pass_state (place + 1) 1 = h.passes_are place j none within ∙ h.first.each place none below in
-    let last = (get_or dones place d).pass in
-    let told = (get_or dones place d).replies.items in
-    subst (λ (calls : List Call). IsWork book base (pass_state (place + 1) 1) calls last told) (h.calls_are place j within)
-    (subst (λ (p : PassState). IsWork book base p (items (get_or jobs place j).1) last told) pass w.work)
+    let it = get_or dones place d in
+    subst (λ (calls : List Call). IsDone book base (pass_state (place + 1) 1) calls it) (h.calls_are place j within)
+    (subst (λ (p : PassState). IsDone book base p (items (get_or jobs place j).1) it) pass w)
 
 pub worked_at : {V : Type 0} (items : V → List Call) (book : Book) (base : List ℕ) (lines : List ScriptLine) (workers : ℕ) (passes : List PassState) (jobs : List (PassState × V)) (dones : List Done)
-    → AreJobs items lines workers passes jobs → AreDone items book base jobs dones → (place : ℕ) → place < workers
-    → IsWorked book base (place + 1) (calls_of (Worker (place + 1)) lines) (worker_replies dones (place + 1))
-worked_at items book base lines workers passes [] dones h done place below = let no : ⊥ = omega (arith, h.many, h.first.many) in absurd no
-worked_at items book base lines workers passes (j ∷ jobs) [] h done place below = let no : ⊥ = omega (arith, done.many) in absurd no
-worked_at items book base lines workers passes (j ∷ jobs) (d ∷ dones) h done place below = (
-  (get_or (d ∷ dones) place d).replies.items,
-  (get_or (d ∷ dones) place d).pass,
-  sym (replies_at (d ∷ dones) place d (omega (arith, done.many, h.many, h.first.many))),
-  work_at items book base lines workers passes (j ∷ jobs) (d ∷ dones) h done place below d j,
+    → AreJobs items lines workers passes jobs → AreDone items book base jobs dones → (place : ℕ) (none : Done) → place < workers
+    → IsWorked book base (place + 1) (calls_of (Worker (place + 1)) lines) (worker_replies dones (place + 1)) (get_or dones place none)
+worked_at items book base lines workers passes [] dones h done place none below = let no : ⊥ = omega (arith, h.many, h.first.many) in absurd no
+worked_at items book base lines workers passes (j ∷ jobs) dones h done place none below = (
+  sym (replies_at dones place none (omega (arith, done.many, h.many, h.first.many))),
+  done_at items book base lines workers passes (j ∷ jobs) dones h done place below none j,
 )
 
 -- each worker has as many entries as its pass says, where all passes are there
@@ -100,10 +97,10 @@ pass_at items book base lines workers passes [] dones h done place p below = let
 pass_at items book base lines workers passes (j ∷ jobs) [] h done place p below = let no : ⊥ = omega (arith, done.many) in absurd no
 pass_at items book base lines workers passes (j ∷ jobs) (d ∷ dones) h done place p below =
     let within : place < length (d ∷ dones) = omega (arith, length-map (d ∷ dones) (λ (done : Done). done.pass)) in
-    let w = work_at items book base lines workers passes (j ∷ jobs) (d ∷ dones) h done place (omega (arith, done.many, h.many, h.first.many)) d j in
+    let w = done_at items book base lines workers passes (j ∷ jobs) (d ∷ dones) h done place (omega (arith, done.many, h.many, h.first.many)) d j in
     let many : length (worker_replies (d ∷ dones) (place + 1)) ≡ length (get_or (d ∷ dones) place d).replies.items =
     ap length (replies_at (d ∷ dones) place d within) ∙ length-map (get_or (d ∷ dones) place d).replies.items (λ (reply : Reply × ToldState). reply.0) in
-    get_or-map (λ (done : Done). done.pass) (d ∷ dones) place d p within ∙ w.pass ∙ ap (λ (n : ℕ). pass_state (place + 1) (1 + n)) (sym many)
+    get_or-map (λ (done : Done). done.pass) (d ∷ dones) place d p within ∙ w.work.pass ∙ ap (λ (n : ℕ). pass_state (place + 1) (1 + n)) (sym many)
 
 pub made_at : {V : Type 0} (items : V → List Call) (book : Book) (base : List ℕ) (lines : List ScriptLine) (workers : ℕ) (passes : List PassState) (jobs : List (PassState × V)) (dones : List Done) (journal : List Entry)
     → AreJobs items lines workers passes jobs → AreDone items book base jobs dones
@@ -113,10 +110,16 @@ made_at items book base lines workers passes jobs dones journal h done all place
     made_of (map (λ (done : Done). done.pass) dones) journal (λ i. length (worker_replies dones (i + 1))) all (pass_at items book base lines workers passes jobs dones h done) place
     (omega (arith, length-map dones (λ (done : Done). done.pass), done.many, h.many, h.first.many))
 
+-- as many were done as the script has workers
+pub dones_count : {V : Type 0} (items : V → List Call) (book : Book) (base : List ℕ) (lines : List ScriptLine) (passes : List PassState) (jobs : List (PassState × V)) (dones : List Done)
+    → AreJobs items lines (workers lines) passes jobs → AreDone items book base jobs dones → length dones ≡ workers lines
+dones_count items book base lines passes jobs dones h done = omega (arith, done.many, h.many, h.first.many)
+
 -- there are as many passes as the script has workers
 pub passes_count : {V : Type 0} (items : V → List Call) (book : Book) (base : List ℕ) (lines : List ScriptLine) (passes : List PassState) (jobs : List (PassState × V)) (dones : List Done)
     → AreJobs items lines (workers lines) passes jobs → AreDone items book base jobs dones → length (map (λ (done : Done). done.pass) dones) ≡ workers lines
-passes_count items book base lines passes jobs dones h done = omega (arith, length-map dones (λ (done : Done). done.pass), done.many, h.many, h.first.many)
+passes_count items book base lines passes jobs dones h done =
+    length-map dones (λ (done : Done). done.pass) ∙ dones_count items book base lines passes jobs dones h done
 
 -- ---- what workers were told
 
@@ -127,6 +130,15 @@ told_of items book base [] dones done i d below = let no : ⊥ = omega (arith, b
 told_of items book base (j ∷ jobs) dones done i d below = λ k r under.
     let one = done.each i d j (omega (arith, below, done.many)) in
     ap (λ (t : ToldState). t.book) (one.work.each k (GetDirInfo 0) r under).1.told_is.tells
+
+-- and cover no more than was made until then
+pub told_within : {V : Type 0} (items : V → List Call) (book : Book) (base : List ℕ) (jobs : List (PassState × V)) (dones : List Done)
+    → AreDone items book base jobs dones → OfEach AreWithin dones
+told_within items book base [] dones done i d below = let no : ⊥ = omega (arith, below, done.many) in absurd no
+told_within items book base (j ∷ jobs) dones done i d below = λ k r under.
+    let one = done.each i d j (omega (arith, below, done.many)) in
+    let given = (one.work.each k (GetDirInfo 0) r under).1.told_is in
+    omega (arith, given.within, ap (λ (t : ToldState). t.made) given.tells)
 
 -- what a run was closed with: a legal journal, of which the list that its viewer saw last is published
 pub record IsEnd (opening : Volume) (journal : List Entry) (covered : ℕ) (seen last : List Item) (dones : List Done) : Type 0 where
@@ -148,7 +160,7 @@ stand_at items book base lines workers passes (j ∷ jobs) (d ∷ dones) h done 
     let few : k < length answers = omega (arith, under, ap length are, length-map answers (λ (reply : Reply × ToldState). reply.0)) in
     let answer : Reply × ToldState = get_or answers k (r, told_none book) in
     let calls = calls_of (Worker (place + 1)) lines in
-    let w = work_at items book base lines workers passes (j ∷ jobs) (d ∷ dones) h done place below d j in
+    let w = (done_at items book base lines workers passes (j ∷ jobs) (d ∷ dones) h done place below d j).work in
     let one : Stands base journal (get_or calls k c) answer.0 =
     stands law book base journal covered seen last _ _ (get_or calls k c) answer.0 answer.1 end.legal (w.each k c (r, told_none book) few)
     (whole place d within k (r, told_none book) few) (end.learned place d within k (r, told_none book) few) end.begins end.published_is in

@@ -1,5 +1,5 @@
 -- The text of the answers to a script.
-use Rattle.std.specs.Prelude.{ℕ, ◌-◌, Bool, List, [], ◌++◌, map, get_or, slice_get, codes, Option, Some, None}
+use Rattle.std.specs.Prelude.{ℕ, ◌-◌, ◌<◌, ◌≤◌, Bool, MatchBool, List, [], ◌++◌, length, map, get_or, slice_get, codes, Option, Some, None}
 use Rattle.std.proofs.Common.{Vec, Global}
 use Rattle.std.specs.Option.{is_some}
 use Rattle.std.specs.List.{flat_map, list_all}
@@ -7,6 +7,8 @@ use Rattle.std.specs.Fmt.{decimal}
 use Rattle.hfs_model.specs.declared.reply.Reply.{Reply}
 use Rattle.hfs_scripts.specs.declared.lines.Caller.{Caller}
 use Rattle.hfs_scripts.specs.declared.lines.Caller.TheVariants.{Worker, Viewer}
+use Rattle.hfs_scripts.specs.declared.lines.ScriptLine.{ScriptLine}
+use Rattle.hfs_scripts.specs.Callers.{calls_of}
 use Rattle.hfs_scripts.specs.Texts.{caller_text}
 use Rattle.hfs_texts.specs.Answers.{reply_text}
 use Rattle.hfs_shared.specs.Tolds.{ToldState}
@@ -49,3 +51,8 @@ answers_text replies asked = flat_map (λ one. answer_text one (reply_to replies
 -- whether each call was answered
 unfoldable pub is_whole : (Caller → List Reply) → List Asked → Bool
 is_whole replies asked = list_all (λ one. is_some (reply_to replies one)) asked
+
+-- where that is so each caller has a reply to each of its calls in these lines; otherwise some caller has fewer replies
+abbrev pub AreAnswered : Bool → (Caller → List Reply) → List ScriptLine → Type 0
+AreAnswered whole replies lines = MatchBool whole ((caller : Caller) → length (calls_of caller lines) ≤ length (replies caller))
+    ((caller : Caller) × (length (replies caller) < length (calls_of caller lines)))

@@ -13,15 +13,16 @@ use Rattle.hfs_copy.specs.Working.{CarriesOverBut}
 use Rattle.hfs_scripts.specs.declared.lines.ScriptLine.{ScriptLine}
 use Rattle.hfs_runs.specs.Pieces.{text_of_pieces}
 use Rattle.hfs_runs.specs.Runs.{AreLinesRun}
+use Rattle.hfs_runs.specs.Tellings.{ToldReplies}
 use Rattle.hfs_copy.specs.GivenBack.{IsGivenBack}
 use Rattle.hfs_runs.specs.NamedForks.{HasNamedForks, IsForkBlock}
 use Rattle.hfs_runs.specs.Naming.{line_calls, read_forks}
 use Rattle.hfs_runs.specs.declared.needed_running.NeededRan.{NeededRan}
 
 -- lines were run on a copy, and these blocks make of it what the run made
-pub record AreLinesRunOver (copy : List ℕ) (lines : List ScriptLine) (patch : Numbered) (text : List ℕ) (whole shown : Bool) : Type 0 where
+pub record AreLinesRunOver (copy : List ℕ) (lines : List ScriptLine) (patch : Numbered) (text : List ℕ) (whole shown : Bool) (told : ToldReplies) : Type 0 where
   pub volume : ImageValue
-  pub ran : AreLinesRun copy lines volume text whole shown
+  pub ran : AreLinesRun copy lines volume text whole shown told
   pub makes : volume.current ≡ patched patch copy
 
 -- copy and image hold the same, before these blocks are laid over both and then, except for the bytes of forks of files whose IDs are not kept
@@ -38,8 +39,8 @@ IsOwnZeros keep volume n = IsForkBlock (block_at volume.current) (λ id. keep id
 -- except for the blocks of forks that calls wrote, and for blocks of zeros, of which there are none where no line reads or writes a fork: those of forks of
 -- some files, and those that no file has and that the volume keeps as changed. Where the forks were read that the lines name, the forks of these same
 -- files are the image's before the run, and then what the run made of the copy; the lines' files and those that were made are among them.
-pub record IsRunOver (read : Numbered) (len : ℕ) (lines : List ScriptLine) (patch : Numbered) (text : List ℕ) (whole shown : Bool) : Type 0 where
-  pub over : AreLinesRunOver (copy_of read len) lines patch text whole shown
+pub record IsRunOver (read : Numbered) (len : ℕ) (lines : List ScriptLine) (patch : Numbered) (text : List ℕ) (whole shown : Bool) (told : ToldReplies) : Type 0 where
+  pub over : AreLinesRunOver (copy_of read len) lines patch text whole shown told
   pub keep : ℕ → Bool
   pub zeros : List ℕ
   pub own : Each (IsOwnZeros keep over.volume) zeros
@@ -50,4 +51,4 @@ pub record IsRunOver (read : Numbered) (len : ℕ) (lines : List ScriptLine) (pa
 
 -- the same of what the program hands out
 abbrev pub IsRunOverAs : Numbered → ℕ → List ScriptLine → NeededRan → Type 0
-IsRunOverAs read len lines ran = IsRunOver read len lines ran.patch (text_of_pieces ran.answers) ran.whole ran.shown
+IsRunOverAs read len lines ran = IsRunOver read len lines ran.patch (text_of_pieces ran.answers) ran.whole ran.shown ran.answers.replies.workers.items

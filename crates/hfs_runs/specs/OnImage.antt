@@ -27,6 +27,7 @@ use Rattle.hfs_scripts.specs.declared.lines.ScriptLine.{ScriptLine}
 use Rattle.hfs_scripts.specs.Callers.{calls_of, workers}
 use Rattle.hfs_shared.specs.Shareds.{IsReplyOf}
 use Rattle.hfs_runs.specs.Runs.{AreLinesRun}
+use Rattle.hfs_runs.specs.Tellings.{ToldReplies}
 use Rattle.hfs_runs.specs.NamedForks.{HasNamedForks}
 use Rattle.hfs_runs.specs.NeededRuns.{AreLinesRunOver, CarriesForks}
 use Rattle.hfs_runs.specs.Naming.{line_calls, read_forks}
@@ -85,8 +86,8 @@ pub record AreWorkersOnImage (lines : List ScriptLine) (copy image : List ℕ) (
   pub stand : shown ≡ true → OfReplies (StandsOnImage (line_calls lines) copy image journal) (calls_of (Worker worker) lines) replies
 
 -- so it is of all workers of a run
-abbrev pub AreAllOnImage : (lines : List ScriptLine) (copy image : List ℕ) (volume : ImageValue) (text : List ℕ) (whole shown : Bool) → AreLinesRun copy lines volume text whole shown → Type 0
-AreAllOnImage lines copy image volume text whole shown ran =
+abbrev pub AreAllOnImage : (lines : List ScriptLine) (copy image : List ℕ) (volume : ImageValue) (text : List ℕ) (whole shown : Bool) (told : ToldReplies) → AreLinesRun copy lines volume text whole shown told → Type 0
+AreAllOnImage lines copy image volume text whole shown told ran =
     (place : ℕ) → place < workers lines → AreWorkersOnImage lines copy image shown ran.journal (place + 1) (ran.replies (Worker (place + 1)))
 
 -- these bytes hold what entries make of an image's volume, except for the bytes of forks of files that none of these calls names by its place, of which
@@ -108,12 +109,12 @@ NamedForksAreTheImages =
 -- over such a copy each reply to a worker is the image's
 abbrev pub WorkersReadTheImage : Type 0
 WorkersReadTheImage =
-    (copy image : List ℕ) (lines : List ScriptLine) (volume : ImageValue) (text : List ℕ) (whole shown : Bool) → IsLinesCopy lines copy image
-    → (ran : AreLinesRun copy lines volume text whole shown) → AreAllOnImage lines copy image volume text whole shown ran
+    (copy image : List ℕ) (lines : List ScriptLine) (volume : ImageValue) (text : List ℕ) (whole shown : Bool) (told : ToldReplies) → IsLinesCopy lines copy image
+    → (ran : AreLinesRun copy lines volume text whole shown told) → AreAllOnImage lines copy image volume text whole shown told ran
 
 -- what goes out of a run over such a copy makes of the image what the run's calls make of its volume
 abbrev pub SavedIsMade : Type 0
 SavedIsMade =
-    (copy image : List ℕ) (lines : List ScriptLine) (patch : Numbered) (text : List ℕ) (whole shown : Bool)
-    (over : AreLinesRunOver copy lines patch text whole shown) (keep : ℕ → Bool) → CarriesForks keep (line_calls lines) patch copy image
+    (copy image : List ℕ) (lines : List ScriptLine) (patch : Numbered) (text : List ℕ) (whole shown : Bool) (told : ToldReplies)
+    (over : AreLinesRunOver copy lines patch text whole shown told) (keep : ℕ → Bool) → CarriesForks keep (line_calls lines) patch copy image
     → HoldsMade (line_calls lines) over.ran.journal copy image (patched patch image)

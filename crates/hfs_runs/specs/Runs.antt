@@ -1,5 +1,5 @@
 -- What a run of a script makes.
-use Rattle.std.specs.Prelude.{◌≡◌, ℕ, ◌+◌, ◌<◌, ◌⊎◌, Bool, true, List, map, length, Some, Ok, Err, string_bytes}
+use Rattle.std.specs.Prelude.{◌≡◌, ℕ, ◌+◌, ◌<◌, ◌⊎◌, Bool, true, List, map, length, get_or, Some, Ok, Err, string_bytes}
 use Rattle.logbook.specs.Pages.{Book}
 use Rattle.hfs_model.specs.declared.call.Call.{Call}
 use Rattle.hfs_model.specs.declared.reply.Reply.{Reply}
@@ -19,23 +19,23 @@ use Rattle.hfs_scripts.specs.Callers.{calls_of, workers, viewers}
 use Rattle.hfs_scripts.specs.Scripts.{script_of}
 use Rattle.hfs_shared.specs.Histories.{Known, known, opened}
 use Rattle.hfs_shared.specs.Journals.{IsLegal, made_by}
-use Rattle.hfs_shared.specs.Tolds.{ToldState}
 use Rattle.hfs_shared.specs.Closings.{HasNoOthers, IsClosed}
 use Rattle.hfs_shared.specs.declared.done.Done.{Done}
-use Rattle.hfs_shared.specs.Desks.{PassState, pass_state}
+use Rattle.hfs_shared.specs.Desks.{pass_state}
 use Rattle.hfs_shared.specs.Stages.{HaveMadeOf, stage_of}
-use Rattle.hfs_shared.specs.Works.{IsWork}
+use Rattle.hfs_shared.specs.Works.{IsDone}
 use Rattle.hfs_runs.specs.declared.script_fault.ScriptFault.{ScriptFault}
 use Rattle.hfs_runs.specs.declared.script_fault.ScriptFault.TheVariants as run
 use Rattle.hfs_runs.specs.declared.numbering.Asked.{Asked}
 use Rattle.hfs_runs.specs.declared.running.Made.{Made}
 use Rattle.hfs_runs.specs.declared.running.Ran.{Ran}
 use Rattle.hfs_runs.specs.declared.running.RanInPieces.{RanInPieces}
-use Rattle.hfs_runs.specs.Answers.{answers_text, is_whole, kept_replies}
+use Rattle.hfs_runs.specs.Answers.{AreAnswered, answers_text, is_whole, kept_replies}
 use Rattle.hfs_runs.specs.Asking.{AreNumbered}
+use Rattle.hfs_runs.specs.Jobs.{has_viewer}
 use Rattle.hfs_runs.specs.Pieces.{text_of_pieces}
 use Rattle.hfs_runs.specs.Standing.{AllStand}
-use Rattle.hfs_runs.specs.Tellings.{AllBegin, OfEach}
+use Rattle.hfs_runs.specs.Tellings.{AllBegin, AreToldWhole, OfEach, ToldReplies}
 use Rattle.hfs_runs.specs.Views.{AreReads}
 
 -- ---- faults
@@ -43,6 +43,10 @@ use Rattle.hfs_runs.specs.Views.{AreReads}
 -- the bytes are a script
 abbrev pub IsScript : ℕ → List ℕ → Type 0
 IsScript now script = (lines : List ScriptLine) × (script_of now script ≡ Ok lines)
+
+-- the bytes are a script, and a line is a viewer's
+abbrev pub IsViewersScript : ℕ → List ℕ → Type 0
+IsViewersScript now script = (lines : List ScriptLine) × (script_of now script ≡ Ok lines) × (has_viewer lines ≡ true)
 
 -- why an image was not mounted for a run: memory was refused, or the image is
 abbrev pub IsMountFault : List ℕ → ScriptFault → Type 0
@@ -52,27 +56,26 @@ IsMountFault image (run.Refused why) = fault_of image ≡ Some why
 IsMountFault image run.NoPlace = ⊥
 IsMountFault image run.Memory = Unit {0}
 
--- why a volume was not shared for a run: a viewer had no place, or memory was refused
-abbrev pub IsStartFault : ScriptFault → Type 0
-IsStartFault fault = (fault ≡ run.NoPlace) ⊎ (fault ≡ run.Memory)
+-- why a volume was not shared for a run of these lines: one of them is a viewer's, which had no place, or memory was refused
+abbrev pub IsStartFault : List ScriptLine → ScriptFault → Type 0
+IsStartFault lines fault = ((fault ≡ run.NoPlace) × (has_viewer lines ≡ true)) ⊎ (fault ≡ run.Memory)
 
 -- why a script was not run on an image: memory was refused; or the script doesn't read; or it does, and the image is refused;
--- or both are good, and a viewer had no place
+-- or both are good, a line is a viewer's, and a viewer had no place
 abbrev pub IsRunFault : ℕ → List ℕ → List ℕ → ScriptFault → Type 0
 IsRunFault now script image run.TooLarge = script_of now script ≡ Err read.TooLarge
 IsRunFault now script image (run.Line place) = script_of now script ≡ Err (read.Line place)
 IsRunFault now script image (run.Refused why) = IsScript now script × (fault_of image ≡ Some why)
-IsRunFault now script image run.NoPlace = IsScript now script × IsSound image
+IsRunFault now script image run.NoPlace = IsViewersScript now script × IsSound image
 IsRunFault now script image run.Memory = Unit {0}
 
 -- ---- runs
 
--- these are the replies to the first of a worker's calls on what this image became, each that of the call after some entries of a
--- legal journal
-abbrev pub IsWorked : Book → List ℕ → ℕ → List Call → List Reply → Type 0
-IsWorked book image worker calls replies =
-    (told : List (Reply × ToldState)) × (last : PassState) × (map (λ reply. reply.0) told ≡ replies)
-    × IsWork book image (pass_state worker 1) calls last told
+-- a worker made its calls on what this image became, all of them or those before its first fault, and these are the replies, each that of
+-- the call after some entries of a legal journal
+abbrev pub IsWorked : Book → List ℕ → ℕ → List Call → List Reply → Done → Type 0
+IsWorked book image worker calls replies done =
+    (map (λ reply. reply.0) done.replies.items ≡ replies) × IsDone book image (pass_state worker 1) calls done
 
 -- these are the replies to the first of a viewer's calls, each on a published list that begins with the one before it
 abbrev pub IsViewedFrom : Book → Volume → List Call → List Reply → Type 0
@@ -88,18 +91,21 @@ pub record IsHandedOut (base : List ℕ) (volume : ImageValue) (dones : List Don
   pub closed : IsClosed base volume journal shown (map (λ (done : Done). done.pass) dones) before afterwards
   pub learned : OfEach (AllBegin before.list) dones
 
--- what a run of these lines on an image made: the volume afterwards, the text of the answers, whether all lines were answered, and
--- whether each change was shown at once. The volume's image agrees with the given one, except for the blocks of forks that calls of a legal
--- journal wrote, which made it one after the other, and its volume is the one after that journal, which has as many entries of each worker
--- as it got replies, and none of anybody else. Where each change was shown at once, each reply to a worker is in that journal.
-pub record AreLinesRun (image : List ℕ) (lines : List ScriptLine) (volume : ImageValue) (text : List ℕ) (whole shown : Bool) : Type 0 where
+-- what a run of these lines on an image made: the volume afterwards, the text of the answers, whether all lines were answered, whether each
+-- change was shown at once, and what workers were told. The volume's image agrees with the given one, except for the blocks of forks that
+-- calls of a legal journal wrote, which made it one after the other, and its volume is the one after that journal, which has as many entries
+-- of each worker as it got replies, and none of anybody else. Each change was shown at once exactly where each list that a worker was given
+-- covers all calls that were made until then, otherwise some list covers fewer; where it was, each reply to a worker is in that journal.
+pub record AreLinesRun (image : List ℕ) (lines : List ScriptLine) (volume : ImageValue) (text : List ℕ) (whole shown : Bool) (told : ToldReplies) : Type 0 where
   pub book : Book
   pub journal : List Entry
+  pub dones : List Done
   pub replies : Caller → List Reply
   pub asked : List Asked
   pub numbered : AreNumbered (map (λ (line : ScriptLine). line.caller) lines) asked
   pub text_is : text ≡ answers_text replies asked
   pub whole_is : whole ≡ is_whole replies asked
+  pub answered : AreAnswered whole replies lines
   pub base_is : volume.base ≡ image
   pub agrees : AgreesBut volume.written image volume.current
   pub wrote : HaveMadeOf image journal (stage_of volume)
@@ -107,29 +113,38 @@ pub record AreLinesRun (image : List ℕ) (lines : List ScriptLine) (volume : Im
   pub follows : volume_of volume.current ≡ after (volume_of image) journal
   pub made : (place : ℕ) → place < workers lines → made_by (place + 1) journal ≡ length (replies (Worker (place + 1)))
   pub others : HasNoOthers (workers lines) journal
-  pub worked : (place : ℕ) → place < workers lines → IsWorked book image (place + 1) (calls_of (Worker (place + 1)) lines) (replies (Worker (place + 1)))
+  pub many : length dones ≡ workers lines
+  pub worked : (place : ℕ) (none : Done) → place < workers lines
+      → IsWorked book image (place + 1) (calls_of (Worker (place + 1)) lines) (replies (Worker (place + 1))) (get_or dones place none)
   pub viewed : (place : ℕ) → place < viewers lines → IsViewedFrom book (volume_of image) (calls_of (Viewer (place + 1)) lines) (replies (Viewer (place + 1)))
+  pub told_is : told ≡ map (λ (done : Done). done.replies) dones
+  pub shown_is : AreToldWhole shown dones
   pub stands : shown ≡ true → (place : ℕ) → place < workers lines → AllStand image journal (calls_of (Worker (place + 1)) lines) (replies (Worker (place + 1)))
+
+-- the same, where what workers were told isn't handed out
+abbrev pub AreLinesRunUntold : List ℕ → List ScriptLine → ImageValue → List ℕ → Bool → Bool → Type 0
+AreLinesRunUntold image lines volume text whole shown = (told : ToldReplies) × AreLinesRun image lines volume text whole shown told
 
 -- the same of what the program hands out
 abbrev pub AreLinesRunAs : List ℕ → List ScriptLine → Ran → Type 0
-AreLinesRunAs image lines ran = AreLinesRun image lines ran.volume (string_bytes ran.text) ran.whole ran.shown
+AreLinesRunAs image lines ran = AreLinesRunUntold image lines ran.volume (string_bytes ran.text) ran.whole ran.shown
 
 -- the same, where the answers are in pieces
 abbrev pub AreLinesRunInPieces : List ℕ → List ScriptLine → RanInPieces → Type 0
-AreLinesRunInPieces image lines ran = AreLinesRun image lines ran.volume (text_of_pieces ran.answers) ran.whole ran.shown
+AreLinesRunInPieces image lines ran = AreLinesRun image lines ran.volume (text_of_pieces ran.answers) ran.whole ran.shown ran.answers.replies.workers.items
 
 -- the same of what was made, before the answers have their text
 abbrev pub AreLinesMade : List ℕ → List ScriptLine → Made → Type 0
 AreLinesMade image lines made =
     AreLinesRun image lines made.volume (answers_text (kept_replies made.replies) made.lines.items) (is_whole (kept_replies made.replies) made.lines.items) made.shown
+    made.replies.workers.items
 
 -- a script reads as lines, and these were run on a sound image
 pub record IsScriptRun (now : ℕ) (script image : List ℕ) (volume : ImageValue) (text : List ℕ) (whole shown : Bool) : Type 0 where
   pub lines : List ScriptLine
   pub reads : script_of now script ≡ Ok lines
   pub sound : IsSound image
-  pub ran : AreLinesRun image lines volume text whole shown
+  pub ran : AreLinesRunUntold image lines volume text whole shown
 
 -- the same of what the program hands out
 abbrev pub IsScriptRunAs : ℕ → List ℕ → List ℕ → Ran → Type 0

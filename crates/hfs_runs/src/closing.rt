@@ -96,6 +96,8 @@ pub fn close<K: Session, R: Wait>(
     ensures ok { IfOk result (λ r. IsHandedOut K.base r.0 dones.items) }
     ensures replies { IfOk result (λ r. (caller : Caller)
         → kept_replies r.1 caller ≡ replies_of dones.items viewings.items caller) }
+    ensures told { IfOk result (λ r.
+        r.1.workers.items ≡ map (λ done. done.replies) dones.items) }
     ensures err { IfErr result (λ fault. fault ≡ ScriptFault.Memory) }
 {
     let (readers, viewers) = part_viewings(alloc, viewings)?;

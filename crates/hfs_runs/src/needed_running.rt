@@ -35,7 +35,7 @@ pub struct NeededRan {
 /// Runs a script, as `run_volume_in_pieces` does, on a volume of an image of `len` bytes of which the working blocks were read,
 /// and the forks that the script may read or write. What is written, laid over the image, agrees with the image except for the
 /// blocks of forks that calls wrote, and holds what the script made of the copy, including the forks of files that its lines name
-/// or that it made. Other forks are the image's. Faults, in this order: `NoPlace`; also `Memory`.
+/// or that it made. Other forks are the image's. Faults: `NoPlace` if a line is a viewer's; `Memory`.
 pub fn run_needed_at<R: Threads + Wait + Sync, G: Gate + Sync>(
     rt: &R,
     alloc: Global,
@@ -49,7 +49,7 @@ pub fn run_needed_at<R: Threads + Wait + Sync, G: Gate + Sync>(
     requires small { All (λ l. IsSmall l.caller) script }
     ensures ran { IfOk result (IsRunOverAs working.read len script) }
     ensures within { IfOk result (λ ran. AreWithin (changes ran.patch) (len / 512)) }
-    ensures err { IfErr result IsStartFault }
+    ensures err { IfErr result (IsStartFault script) }
 {
     let files = script_files(alloc, &working, script.lines())?;
     let Ok(volume) = mount_read(alloc, working, len) else {

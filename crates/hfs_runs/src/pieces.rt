@@ -118,6 +118,7 @@ pub fn answers_in_pieces(
     ensures text { IfOk result (λ r.
         text_of_pieces r.0 ≡ answers_text (kept_replies replies) lines.now) }
     ensures whole { IfOk result (λ r. r.1 ≡ is_whole (kept_replies replies) lines.now) }
+    ensures replies { IfOk result (λ r. r.0.replies ≡ replies) }
 {
     let mut pieces = Vec::new(alloc);
     let mut text = String::new(alloc);

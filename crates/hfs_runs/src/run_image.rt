@@ -4,7 +4,6 @@ ghost use Rattle.hfs_blocks.specs.Layers.{changes, AreWithin};
 ghost use Rattle.hfs_check.specs.Faults.{fault_of};
 ghost use Rattle.hfs_runs.specs.Asking.{IsSmall};
 ghost use Rattle.hfs_runs.specs.Pieces.{text_of_pieces};
-ghost use Rattle.hfs_runs.specs.Runs.{IsStartFault};
 ghost use Rattle.hfs_scripts.specs.Scripts.{script_of};
 ghost use Rattle.hfs_commands.specs.Faults.{IsTooMuch};
 ghost use Rattle.hfs_runs.specs.Running.{IsNeededFault, IsNeededRunOf, IsScriptFault};
@@ -112,14 +111,6 @@ pub fn script_lines(alloc: Global, bytes: &[u8], now: u32) -> Result<Script, Fau
     }
 }
 
-/// The program's fault for a volume that was not shared for a run.
-fn start_fault(fault: ScriptFault) -> Fault<'static>
-    requires { IsStartFault fault }
-    ensures { (result ≡ Fault.NoPlace) ⊎ (result ≡ Fault.NoMemory) }
-{
-    run_fault(fault)
-}
-
 impl<S: FailingBlocks + Drop> RunImage<S> {
     /// Reads those blocks of an image of `len` bytes that calls read and write, and makes all checks. An image that is refused is
     /// returned with its first fault, which counts only once the script was read. `path` is what was opened. Faults: `CannotRead`
@@ -164,8 +155,8 @@ impl<S: FailingBlocks + Drop> RunImage<S> {
 
 impl<S: BlockSource + Watched + Drop> RunImage<S> {
     /// Reads the forks that a script may read or write, and runs the script, with a gate that is called around each call of a
-    /// worker. Faults: `CannotRead` of this path if a read fails, or if the image has changed since it was opened; `NoPlace`;
-    /// `NoMemory`.
+    /// worker. Faults: `CannotRead` of this path if a read fails, or if the image has changed since it was opened; `NoPlace`, only
+    /// if a line is a viewer's; `NoMemory`.
     pub fn run_at<'a, R: Threads + Wait + Sync, G: Gate + Sync>(
         self,
         rt: &R,
@@ -176,12 +167,13 @@ impl<S: BlockSource + Watched + Drop> RunImage<S> {
     ) -> Result<RanImage<S>, Fault<'a>>
         requires { All (λ line. IsSmall line.caller) script }
         ensures ran { IfOk result (λ ran. IsNeededRunOf (S.Holds ran.image.source) self.1 script
-            ran.image.patch (text_of_pieces ran.answers) ran.whole ran.shown) }
+            ran.image.patch (text_of_pieces ran.answers) ran.whole ran.shown
+            ran.answers.replies.workers.items) }
         ensures len { IfOk result (λ ran. ran.image.len ≡ self.1) }
         ensures image { IfOk result (λ ran. S.image ran.image.source ≡ S.image self.0) }
         ensures narrows { IfOk result (λ ran. OfEach (S.Holds ran.image.source) (S.Holds self.0)) }
         ensures settled { IfOk result (λ ran. S.settled ran.image.source) }
-        ensures fault { IfErr result (IsNeededFault path.entry) }
+        ensures fault { IfErr result (IsNeededFault script path.entry) }
     {
         let RunImage {
             source,
@@ -200,7 +192,7 @@ impl<S: BlockSource + Watched + Drop> RunImage<S> {
         };
         match run_needed_at(rt, alloc, gate, working, len, script) {
             Ok(ran) => Ok(ran_image(alloc, source, len, ran)),
-            Err(fault) => Err(start_fault(fault)),
+            Err(fault) => Err(run_fault(fault)),
         }
     }
 }

@@ -152,7 +152,7 @@ fn run_lines<R: Threads + Wait + Sync, G: Gate + Sync>(
 ) -> Result<Made, ScriptFault>
     requires small { All (λ l. IsSmall l.caller) script }
     ensures ok { IfOk result (AreLinesMade volume.current script) }
-    ensures err { IfErr result IsStartFault }
+    ensures err { IfErr result (IsStartFault script) }
 {
     let (parts, passes, viewers) = start(rt, alloc, volume, &script)?;
     run_shared::<Brand, _, _>(rt, alloc, gate, parts, passes, viewers, script)
@@ -161,7 +161,7 @@ fn run_lines<R: Threads + Wait + Sync, G: Gate + Sync>(
 /// Runs a script on the volume of an image: each worker makes its calls in order in a thread of its own, while viewers read. The
 /// lines of the answers are in the script's order. A line that was not answered, because its caller was refused memory, has the
 /// code `none`, and then the run is not whole. Faults, in this order: `TooLarge` and `Line` of the script, `Refused` of the
-/// image, `NoPlace`; also `Memory`.
+/// image, `NoPlace` if a line is a viewer's; also `Memory`.
 pub fn run_script<R: Threads + Wait + Sync>(
     rt: &R,
     alloc: Global,
@@ -195,8 +195,8 @@ pub fn run_script_at<R: Threads + Wait + Sync, G: Gate + Sync>(
     run_volume_at(rt, alloc, gate, volume, script)
 }
 
-/// As `run_script_at`, on a volume that is already mounted, with a script that has been read. Faults, in this order: `NoPlace`;
-/// also `Memory`.
+/// As `run_script_at`, on a volume that is already mounted, with a script that has been read. Faults: `NoPlace` if a line is a
+/// viewer's; `Memory`.
 pub fn run_volume_at<R: Threads + Wait + Sync, G: Gate + Sync>(
     rt: &R,
     alloc: Global,
@@ -206,7 +206,7 @@ pub fn run_volume_at<R: Threads + Wait + Sync, G: Gate + Sync>(
 ) -> Result<Ran, ScriptFault>
     requires small { All (λ l. IsSmall l.caller) script }
     ensures ok { IfOk result (λ ran. AreLinesRunAs volume.current script ran) }
-    ensures err { IfErr result IsStartFault }
+    ensures err { IfErr result (IsStartFault script) }
 {
     let Made {
         volume,
@@ -224,7 +224,7 @@ pub fn run_volume_at<R: Threads + Wait + Sync, G: Gate + Sync>(
 }
 
 /// As `run_volume_at`, with answers in which the digits of long bytes are left out for now, so that their text needn't be in
-/// memory at once. Faults, in this order: `NoPlace`; also `Memory`.
+/// memory at once. Faults: `NoPlace` if a line is a viewer's; `Memory`.
 pub fn run_volume_in_pieces<R: Threads + Wait + Sync, G: Gate + Sync>(
     rt: &R,
     alloc: Global,
@@ -234,7 +234,7 @@ pub fn run_volume_in_pieces<R: Threads + Wait + Sync, G: Gate + Sync>(
 ) -> Result<RanInPieces, ScriptFault>
     requires small { All (λ l. IsSmall l.caller) script }
     ensures ok { IfOk result (AreLinesRunInPieces volume.current script) }
-    ensures err { IfErr result IsStartFault }
+    ensures err { IfErr result (IsStartFault script) }
 {
     let Made {
         volume,

@@ -14,7 +14,7 @@ pub enum ScriptFault {
     Line(u64),
     /// The image is refused, and not for lack of memory.
     Refused(MountFault),
-    /// There was no room for another viewer.
+    /// There was no room for another viewer. Only of a script in which a viewer has a line.
     NoPlace,
     /// Memory was refused.
     Memory,

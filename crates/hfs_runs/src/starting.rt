@@ -1,5 +1,5 @@
 //! What a run begins with: the volume of its image, shared among the callers of its script.
-ghost use Rattle.std.specs.Prelude.{◌≡◌, ◌<◌, ◌≤◌, All, IfOk, IfErr, OnOk};
+ghost use Rattle.std.specs.Prelude.{◌≡◌, ◌<◌, ◌≤◌, ◌⊎◌, All, IfOk, IfErr, OnOk};
 ghost use Rattle.hfs_check.specs.Sound.{IsSound};
 ghost use Rattle.hfs_scripts.specs.Callers.{workers, viewers};
 ghost use Rattle.hfs_shared.specs.Shareds.{IsStart};
@@ -38,7 +38,8 @@ fn start_read<R: Wait>(
     requires viewers { (0 < viewers) × (viewers ≤ 8) }
     ensures ok { IfOk result (λ r.
         IsStart volume.current workers viewers r.0 r.1.items r.2.items) }
-    ensures err { IfErr result IsStartFault }
+    ensures err { IfErr result (λ fault.
+        (fault ≡ ScriptFault.NoPlace) ⊎ (fault ≡ ScriptFault.Memory)) }
 {
     match Parts::start(rt, alloc, volume, workers, viewers) {
         Ok(started) => Ok(started),
@@ -57,7 +58,7 @@ fn start_unread(
 ) -> Result<(Parts, Vec<Pass>, Vec<Viewer>), ScriptFault>
     requires { (0 < workers) × (workers ≤ 8) }
     ensures ok { IfOk result (λ r. IsStart volume.current workers 1 r.0 r.1.items r.2.items) }
-    ensures err { IfErr result IsStartFault }
+    ensures err { IfErr result (λ fault. fault ≡ ScriptFault.Memory) }
 {
     match Parts::start_unread(alloc, volume, workers) {
         Ok((parts, passes, viewer)) => {
@@ -83,7 +84,7 @@ fn has_viewer(lines: &[ScriptLine]) -> bool
 }
 
 /// The parts of a volume for the callers of a script, with passes and viewers. If no line is a viewer's, nothing is kept for
-/// viewers to read.
+/// viewers to read. Faults: `NoPlace`, only if a line is a viewer's; `Memory`.
 pub fn start<R: Wait>(
     rt: &R,
     alloc: Global,
@@ -93,7 +94,7 @@ pub fn start<R: Wait>(
     requires { All (λ line. IsSmall line.caller) script.now }
     ensures ok { IfOk result (λ r. IsStart volume.current (workers script.now) (viewers script.now)
         r.0 r.1.items r.2.items) }
-    ensures err { IfErr result IsStartFault }
+    ensures err { IfErr result (IsStartFault script.now) }
 {
     if has_viewer(script.lines()) {
         return start_read(rt, alloc, volume, script.workers(), script.viewers());

@@ -1,5 +1,13 @@
+use Rattle.hfs_fields.proofs.OutcomeLemmas.{if_err}
+use Rattle.hfs_runs.specs.Runs.{IsRunFault, IsStartFault}
+use Rattle.hfs_runs.proofs.Reasons.{start_fault}
 use Rattle.hfs_runs.proofs.Small.{script_small}
 use Rattle.hfs_runs.proofs.running.run_script_at.Goals as goal
 
 pub run_volume_at-requires-clause-small : goal.run_volume_at-requires-clause-small
 run_volume_at-requires-clause-small g c lifetimes lives = script_small c.args.now c.args.script.now c.in-Ok.script c.in-Ok.ensures
+
+pub returns-clause-err : goal.returns-clause-err
+returns-clause-err g c =
+    if_err c.run_volume_at.result (IsStartFault c.in-Ok.script) (IsRunFault c.args.now c.args.script.now c.args.image.items)
+    (start_fault c.args.now c.args.script.now c.args.image.items c.in-Ok.script c.in-Ok.ensures c.in_ok-volume.ensures.sound) c.run_volume_at.ensures.err

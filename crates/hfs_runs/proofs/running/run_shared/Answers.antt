@@ -71,6 +71,6 @@ returns-clause-ok g c =
     let same : kept_replies kept ≡ replies_of c.in-Ok.dones.items c.run_beside-dones.result.1.items = λ i caller. c.in_ok-volume.ensures.replies caller i in
     let shown : IsWhether c.are_all_whole-shown.result (OfEach AreWhole c.in-Ok.dones.items) =
     subst (λ (ds : List Done). IsWhether c.are_all_whole-shown.result (OfEach AreWhole ds)) c.deref.ensures.value c.are_all_whole-shown.ensures in
-    ran (λ (calls : Vec Call Global). calls.items) book g.K.Session.base script c.in_ok-volume.volume (answers_text (kept_replies kept) asked) (is_whole (kept_replies kept) asked) c.are_all_whole-shown.result asked c.args.passes.items
+    ran (λ (calls : Vec Call Global). calls.items) book g.K.Session.base script c.in_ok-volume.volume (answers_text (kept_replies kept) asked) (is_whole (kept_replies kept) asked) c.are_all_whole-shown.result kept.workers.items asked c.args.passes.items
     c.in_ok-jobs.jobs.items c.in-Ok.dones.items c.in_ok-viewings.viewings.items c.run_beside-dones.result.1.items numbered begins done views viewed
-    (ap (λ (replies : Caller → List Reply). answers_text replies asked) same) (ap (λ (replies : Caller → List Reply). is_whole replies asked) same) published_is_after shown c.in_ok-volume.ensures.ok
+    (ap (λ (replies : Caller → List Reply). answers_text replies asked) same) (ap (λ (replies : Caller → List Reply). is_whole replies asked) same) published_is_after shown c.in_ok-volume.ensures.told c.in_ok-volume.ensures.ok
