@@ -1,5 +1,5 @@
 //! An image's rows as text.
-ghost use Rattle.std.specs.Prelude.{◌≡◌, ◌++◌, length, IfNone, IfOk, IfSome, OnErr};
+ghost use Rattle.std.specs.Prelude.{◌≡◌, ◌++◌, length, IfErr, IfNone, IfOk, IfSome, OnErr};
 ghost use Rattle.hfs_bag.specs.Failing.{SomeFailOf};
 ghost use Rattle.hfs_word_collect.specs.Answers.{IsUnwritten};
 ghost use Rattle.hfs_word_collect.specs.Counts.{image_counts};
