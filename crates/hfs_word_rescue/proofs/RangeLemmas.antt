@@ -1,5 +1,5 @@
 -- Parts of a file that are a range of it, or have no bytes where that doesn't lie in it.
-use Rattle.std.proofs.Common.{◌≡◌, ◌≢◌, ◌∙◌, ℕ, ◌+◌, Bool, List, [], length, length-drop, take, drop, Option, None, Some, ap, arith, inl, inr, refl, subst, sym}
+use Rattle.std.proofs.Common.{◌≡◌, ◌≢◌, ◌∙◌, ℕ, Bool, List, [], length, length-drop, take, drop, Option, None, Some, ap, arith, inl, inr, refl, subst, sym}
 use Rattle.std.proofs.lemmas.List.{length-take-le}
 use Rattle.std.proofs.lemmas.Option.{none-some}
 use Rattle.hfs_check.specs.Faults.{length_fault}
