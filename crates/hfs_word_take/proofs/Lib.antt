@@ -12,6 +12,6 @@ pub mod DigestLemmas
 pub mod ToldLemmas
 pub mod BagLemmas
 pub mod FaultLemmas
-mod PartLines
+pub mod PartLines
 mod SendLemmas
 pub mod PlacedBagLemmas

@@ -8,7 +8,8 @@ use Rattle.hfs_source.specs.Images.{OfEach}
 use Rattle.hfs_word_rescue.specs.declared.image.HoldFault.TheVariants.{NoDirectory}
 use Rattle.hfs_word_rescue.specs.Faults.{HasNoDirectory}
 use Rattle.hfs_word_take.specs.Opening.{TellsSumIn}
-use Rattle.hfs_word_rescue.proofs.RangeLemmas.{none_outside, sum_in_part}
+use Rattle.hfs_word_take.proofs.PartLines.{sum_in_part}
+use Rattle.hfs_word_rescue.proofs.RangeLemmas.{none_outside}
 use Rattle.hfs_word_rescue.proofs.loading.load_range.Goals as goal
 
 pub returns-else-image-range-clause-sum : goal.returns-else-image-range-clause-sum
