@@ -82,21 +82,9 @@ abbrev pub IsUnnamed : Option ℕ → Fault → Type 0
 IsUnnamed None why = (n : ℕ) × (why ≡ fault.SeveralVolumes n)
 IsUnnamed (Some n) why = why ≡ fault.NoVolume n
 
--- a file can't be read, or it is too much
-abbrev pub IsUnreadFile : Bor (List ℕ) → Fault → Type 0
-IsUnreadFile path why = (why ≡ fault.CannotRead path) ⊎ IsTooMuch why
-
 -- a file, or the volume in it that is asked for, was not opened
 abbrev pub IsUnopened : Bor (List ℕ) → Option ℕ → Fault → Type 0
 IsUnopened path volume why = (why ≡ fault.CannotRead path) ⊎ (IsTooMuch why ⊎ IsUnnamed volume why)
-
--- an image that is to be changed was not opened: it can't be read, it is too much, or it isn't written
-abbrev pub IsUnwatched : Bor (List ℕ) → Fault → Type 0
-IsUnwatched path why = (why ≡ fault.CannotRead path) ⊎ (IsTooMuch why ⊎ (why ≡ fault.NotWritten))
-
--- a volume in a file that is to be changed was not opened: there is none with this number, it can't be read, it isn't written, or its sum is wrong
-abbrev pub IsUnopenedVolume : Bor (List ℕ) → ℕ → Fault → Type 0
-IsUnopenedVolume path number why = IsUnopened path (Some number) why ⊎ ((why ≡ fault.NotWritten) ⊎ (why ≡ fault.SumWrong))
 
 -- a script has too many bytes, or more than there is memory for
 abbrev pub IsTooMuchScript : Fault → Type 0

@@ -6,6 +6,7 @@ use Rattle.hfs_source.specs.declared.ranges.ByteRange.{ByteRange}
 use Rattle.hfs_source.specs.Images.{EndsBefore, IsRangeOf, OfEach}
 use Rattle.hfs_source.specs.declared.blocks.BlocksOf.{BlocksOf}
 use Rattle.hfs_source.specs.declared.range.RangeBytes.{RangeBytes}
+use Rattle.hfs_source.specs.declared.seen_blocks.SeenBlocks.{SeenBlocks}
 use Rattle.hfs_commands.specs.Faults.{IsUnopened}
 use Rattle.hfs_commands.specs.OpenedFiles.{images_of}
 use Rattle.hfs_commands.specs.declared.fault.Fault.{Fault}
@@ -16,6 +17,10 @@ use Rattle.hfs_commands.specs.declared.opened_file.OpenedFile.{OpenedFile}
 abbrev pub IsPartOf : (List ℕ → Type 0) → ByteRange → ℕ → ℕ → Type 0
 IsPartOf Holds range start len =
     ((start ≡ range.start) × (len ≡ range.len)) ⊎ ((start ≡ 0) × (len ≡ 0) × OfEach Holds (EndsBefore (range.start + range.len)))
+
+-- the blocks of a part of a file
+abbrev pub PartBlocks : Type 0 → Type 0
+PartBlocks F = SeenBlocks (BlocksOf (RangeBytes (OpenedFile F)))
 
 -- that part of each file that has the bytes which were read
 abbrev pub parts_of : {F : Type 0} → BlocksOf (RangeBytes (OpenedFile F)) → List ℕ → Type 0

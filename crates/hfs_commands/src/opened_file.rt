@@ -3,7 +3,6 @@ ghost use Rattle.std.specs.Prelude.{◌≡◌, IfErr, IfOk, IfNone, IfSome, None
 ghost use Rattle.hfs_source.specs.Raw.{layout_of};
 ghost use Rattle.hfs_source.specs.Sectors.{other_count};
 ghost use Rattle.hfs_source.specs.Images.{OfEach};
-ghost use Rattle.hfs_commands.specs.Faults.{IsUnreadFile};
 ghost use Rattle.hfs_commands.specs.OpenedFiles.{AreHeldOthers, AreOthersOf, HasSectorsOf, StaysHeld, failures_of, files_of, held_bytes, images_of, opened_layout, range_by, raw_range, stored_bytes, stored_failures, stored_images};
 
 use crate::fault::Fault;
@@ -177,7 +176,7 @@ pub fn content_of<'a, F: Read + Seek + Drop>(
         (held_bytes content.source)) }
     ensures range { IfOk result (λ content. content.range
         ≡ range_by (opened_layout content.source) file.range) }
-    ensures fault { IfErr result (IsUnreadFile path.entry) }
+    ensures fault { IfErr result (λ why. why ≡ Fault.CannotRead path.entry) }
 {
     let Window { mut source, range } = file;
     match layout_in(&mut source) {

@@ -2,11 +2,14 @@
 ghost use Rattle.std.specs.Prelude.{◌≡◌, ◌+◌, IfErr, IfOk};
 ghost use Rattle.hfs_commands.specs.OpenedFiles.{images_of};
 ghost use Rattle.hfs_commands.specs.SeenFiles.{IsPartOf, IsUnseen, parts_of};
+ghost use Rattle.hfs_commands.specs.Unopened.{HasNoPart, IsRefusedPart, TellsWhy};
 ghost use Rattle.hfs_image.specs.Seen.{HasNoFault};
+ghost use Rattle.hfs_source.specs.declared.asking.Counted.TheVariants.{Volumes};
 ghost use Rattle.hfs_source.specs.Images.{OfEach, ReachesTo};
 
 use crate::fault::Fault;
 use crate::opened_file::OpenedFile;
+use crate::unopened::{LeftFile, UnopenedFile};
 use crate::volume_files::open_part;
 use hfs_image::{SeenImage, Unopened};
 use hfs_source::{BlocksOf, RangeBytes, SeenBlocks, Window};
@@ -50,19 +53,25 @@ pub fn part_blocks<F: Read + Seek>(part: Window<OpenedFile<F>>) -> PartBlocks<F>
     }
 }
 
-/// Opens what is asked for of an image, as [`open_part`] does, reads its needed blocks and makes all checks. Faults: as for
-/// [`open_part`]; a read failed, memory was refused, or the image is refused.
+/// Opens what is asked for of an image, as [`open_part`] does, reads its needed blocks and makes all checks. Faults, with what
+/// was read: as for [`open_part`]; a read failed, memory was refused, or the image is refused.
+#[tactic(auto, using(crate::proofs::UnopenedLemmas::told_of_part))]
 pub fn open_seen<'a, R: Files + AllocGlobal>(
     rt: &R,
     path: &'a str,
     volume: Option<u64>,
-) -> Result<PartImage<R::File>, Fault<'a>>
+) -> Result<PartImage<R::File>, UnopenedFile<'a, R::File>>
     ensures sound { IfOk result (λ image. OfEach (parts_of image) HasNoFault) }
-    ensures fault { IfErr result (IsUnseen path.entry volume) }
+    ensures told { IfErr result (TellsWhy path.entry (HasNoPart Volumes volume) IsRefusedPart) }
+    ensures fault { IfErr result (λ back. IsUnseen path.entry volume back.fault) }
 {
     let part = open_part(rt, path, volume)?;
     match SeenImage::open(rt.alloc(), part_blocks(part)) {
         Ok(image) => Ok(image),
-        Err(Unopened { fault, source: _ }) => Err(Fault::of_needed(fault, path)),
+        Err(Unopened { fault, source }) => {
+            let fault = Fault::of_needed(fault, path);
+            let left = LeftFile::Part(source);
+            Err(UnopenedFile { fault, left })
+        }
     }
 }

@@ -2,14 +2,18 @@
 ghost use Rattle.std.specs.Prelude.{◌≡◌, IfErr, IfOk, IfSome, None, Some};
 ghost use Rattle.std.specs.Option.{is_some};
 ghost use Rattle.hfs_source.specs.Asking.{IsAnswerTo, asked_in};
-ghost use Rattle.hfs_commands.specs.Faults.{IsUnopened, IsUnreadFile};
-ghost use Rattle.hfs_commands.specs.OpenedFiles.{StaysHeld, held_bytes, held_content, images_of, opened_layout, stored_bytes, stored_images};
-ghost use Rattle.hfs_commands.specs.Parts.{IsRangeAt, asked_at};
+ghost use Rattle.hfs_source.specs.declared.asking.Counted.TheVariants.{Volumes};
+ghost use Rattle.hfs_commands.specs.Faults.{IsUnopened};
+ghost use Rattle.hfs_commands.specs.OpenedFiles.{StaysHeld, failures_of, held_bytes, held_content, images_of, opened_layout, stored_bytes, stored_images};
+ghost use Rattle.hfs_commands.specs.Parts.{IsAskedPart, IsRangeAt, asked_at};
+ghost use Rattle.hfs_commands.specs.Unopened.{HasNoPart, TellsPlace, TellsWhy, WasNotRead};
 ghost use Rattle.hfs_source.specs.Images.{FailsWhere, HasLength, OfEach};
 
 use crate::fault::Fault;
-use crate::files::{load_opened, regular_len};
+use crate::files::regular_len;
 use crate::opened_file::{OpenedFile, StoredFile, content_of};
+use crate::trusted_input::TrustedInput;
+use crate::unopened::{LeftFile, UnopenedFile};
 use hfs_source::{
     Asked, ByteRange, Counted, Layout, NumberedRange, PlacedBytes, Window, find_asked,
 };
@@ -41,20 +45,28 @@ fn whole_file<F: Read + Seek>(source: StoredFile<F>) -> Window<StoredFile<F>>
 }
 
 /// All bytes of something that can't be sought in. Faults: as for [`open_file`].
-#[tactic(auto, using(crate::proofs::WholeReads::whole_held))]
+#[tactic(auto, using(crate::proofs::WholeReads::whole_held, crate::proofs::UnopenedLemmas::told_load))]
 pub(crate) fn loaded<'a, F: Read + Seek + Drop>(
     alloc: Global,
-    mut file: F,
+    file: F,
     path: &'a str,
-) -> Result<Window<StoredFile<F>>, Fault<'a>>
+) -> Result<Window<StoredFile<F>>, UnopenedFile<'a, F>>
     ensures whole { IfOk result (λ held. IfSome (F.remaining file)
         (λ all. stored_bytes held.source ≡ Some all)) }
-    ensures fault { IfErr result (IsUnreadFile path.entry) }
+    ensures told { IfErr result (TellsWhy path.entry WasNotRead WasNotRead) }
 {
-    let bytes = load_opened(alloc, &mut file, path)?;
+    let mut input = TrustedInput::new(file);
+    let bytes = match input.load(alloc) {
+        Ok(bytes) => bytes,
+        Err(fault) => {
+            let fault = Fault::of_load(fault, path);
+            let left = LeftFile::Input(input);
+            return Err(UnopenedFile { fault, left });
+        }
+    };
     match Arc::new(alloc, bytes) {
         Ok(all) => Ok(whole_file(StoredFile::Whole(all))),
-        Err(_) => Err(Fault::NoMemory),
+        Err(_) => Err(UnopenedFile::from(Fault::NoMemory)),
     }
 }
 
@@ -63,8 +75,8 @@ pub(crate) fn opened<'a, F: Read + Seek + Drop>(
     alloc: Global,
     file: F,
     path: &'a str,
-) -> Result<Window<StoredFile<F>>, Fault<'a>>
-    ensures { IfErr result (IsUnreadFile path.entry) }
+) -> Result<Window<StoredFile<F>>, UnopenedFile<'a, F>>
+    ensures { IfErr result (TellsWhy path.entry WasNotRead WasNotRead) }
 {
     match StoredFile::sought(file) {
         Ok(source) => Ok(whole_file(source)),
@@ -88,15 +100,15 @@ fn has_places<F: OpenFile + Seek>(file: &mut F) -> bool {
 
 /// Opens a file as it is. If it has bytes and can be sought in, it is read on demand, and its length is where seeking to its end
 /// leads; of anything else, such as a pipe, all bytes are read. Faults: `CannotRead` if it can't be opened or a read fails,
-/// `Refused(TooLarge)` if all bytes are read and there are more than 2,147,483,648, `NoMemory`.
+/// `Refused(TooLarge)` with the input if all bytes are read and there are more than 2,147,483,648, `NoMemory`.
 pub fn open_file<'a, R: Files + AllocGlobal>(
     rt: &R,
     path: &'a str,
-) -> Result<Window<StoredFile<R::File>>, Fault<'a>>
-    ensures { IfErr result (IsUnreadFile path.entry) }
+) -> Result<Window<StoredFile<R::File>>, UnopenedFile<'a, R::File>>
+    ensures { IfErr result (TellsWhy path.entry WasNotRead WasNotRead) }
 {
     let Ok(mut file) = File::open(rt, path) else {
-        return Err(Fault::CannotRead(path));
+        return Err(UnopenedFile::from(Fault::CannotRead(path)));
     };
     if has_places(&mut file) {
         opened(rt.alloc(), file, path)
@@ -137,7 +149,7 @@ fn stored_part<F: Read + Seek>(file: Window<StoredFile<F>>) -> FilePart<F>
 
 /// Where the range that is asked for lies in a file, or in its user data, given its number or none, as
 /// [`find_asked`] says; `None` is the file as it is. Faults: as for [`part_of`].
-#[tactic(auto, using(crate::proofs::PartLemmas::several_unnamed, crate::proofs::PartLemmas::missing_unnamed))]
+#[tactic(auto, using(crate::proofs::PartLemmas::several_unnamed, crate::proofs::PartLemmas::missing_unnamed, crate::proofs::UnopenedLemmas::no_part, crate::proofs::UnopenedLemmas::of_sparse))]
 pub(crate) fn place_asked<'a, S: PlacedBytes>(
     alloc: Global,
     source: &mut S,
@@ -151,6 +163,7 @@ pub(crate) fn place_asked<'a, S: PlacedBytes>(
     ensures answer { IfOk result (λ place. IsAnswerTo volume (asked_at place)) }
     ensures held { OfEach (S.Holds source.new) (S.Holds source.old) }
     ensures later { FailsWhere (S.Fails source.new) (S.Fails source.old) }
+    ensures told { IfErr result (TellsPlace path.entry layout counted volume (S.Holds source.new)) }
     ensures fault { IfErr result (IsUnopened path.entry volume) }
 {
     match find_asked(alloc, source, layout, counted, volume) {
@@ -162,9 +175,35 @@ pub(crate) fn place_asked<'a, S: PlacedBytes>(
     }
 }
 
-/// The part of an opened file that is asked for, given the number of a range in it or none, as [`find_asked`] says. Faults:
-/// `NoVolume` if there is no such range; `SeveralVolumes` if no number is given and there are several candidates; a read failed,
-/// memory was refused.
+/// Where it lies in the bytes in which volumes are looked for. Faults: as for [`part_of`].
+fn place_in<'a, F: Read + Seek>(
+    alloc: Global,
+    file: &mut OpenedFile<F>,
+    path: &'a str,
+    counted: Counted,
+    volume: Option<u64>,
+) -> Result<Option<NumberedRange>, Fault<'a>>
+    ensures asked { IfOk result (λ place. OfEach (images_of file.new)
+        (λ bytes. asked_at place ≡ asked_in (opened_layout file.old) counted volume bytes)) }
+    ensures answer { IfOk result (λ place. IsAnswerTo volume (asked_at place)) }
+    ensures layout { opened_layout file.new ≡ opened_layout file.old }
+    ensures held { OfEach (images_of file.new) (images_of file.old) }
+    ensures later { FailsWhere (failures_of file.new) (failures_of file.old) }
+    ensures told { IfErr result (TellsPlace path.entry (opened_layout file.old) counted volume
+        (images_of file.new)) }
+    ensures fault { IfErr result (IsUnopened path.entry volume) }
+{
+    match file {
+        OpenedFile::Plain(bytes) => {
+            place_asked(alloc, bytes, Layout::Plain, path, counted, volume)
+        }
+        OpenedFile::Raw(user) => place_asked(alloc, user, Layout::Raw, path, counted, volume),
+    }
+}
+
+/// The part of an opened file that is asked for, given the number of a range in it or none, as [`find_asked`] says. Faults, with
+/// the file: `NoVolume` if there is no such range; `SeveralVolumes` if no number is given and there are several candidates; a
+/// read failed, memory was refused.
 #[tactic(auto, using(crate::proofs::HeldBytes::content_stays))]
 pub fn part_of<'a, F: Read + Seek + Drop>(
     alloc: Global,
@@ -172,30 +211,35 @@ pub fn part_of<'a, F: Read + Seek + Drop>(
     path: &'a str,
     counted: Counted,
     volume: Option<u64>,
-) -> Result<FilePart<F>, Fault<'a>>
+) -> Result<FilePart<F>, UnopenedFile<'a, F>>
     ensures asked { IfOk result (λ part. OfEach (images_of part.bytes.source) (λ bytes.
         asked_at part.place ≡ asked_in (opened_layout file.source) counted volume bytes)) }
     ensures answer { IfOk result (λ part. IsAnswerTo volume (asked_at part.place)) }
+    ensures layout { IfOk result (λ part. opened_layout part.bytes.source
+        ≡ opened_layout file.source) }
     ensures range { IfOk result (λ part. IsRangeAt part.place part.bytes.range) }
     ensures whole { IfOk result (λ part. part.place ≡ None → part.bytes.range ≡ file.range) }
     ensures held { IfOk result (λ part. OfEach (images_of part.bytes.source)
         (images_of file.source)) }
     ensures stays { IfOk result (λ part. StaysHeld (held_content file.source)
         (held_content part.bytes.source)) }
-    ensures fault { IfErr result (IsUnopened path.entry volume) }
+    ensures told { IfErr result (TellsWhy path.entry (HasNoPart counted volume) WasNotRead) }
+    ensures fault { IfErr result (λ back. IsUnopened path.entry volume back.fault) }
 {
     let Window { mut source, range } = file;
-    let layout = source.layout();
-    let place = place_asked(alloc, &mut source, layout, path, counted, volume)?;
-    match place {
-        None => Ok(whole_part(Window { source, range })),
-        Some(place) => Ok(FilePart {
+    match place_in(alloc, &mut source, path, counted, volume) {
+        Ok(None) => Ok(whole_part(Window { source, range })),
+        Ok(Some(place)) => Ok(FilePart {
             bytes: Window {
                 source,
                 range: place.found.range,
             },
             place: Some(place),
         }),
+        Err(fault) => {
+            let left = LeftFile::Content(source);
+            Err(UnopenedFile { fault, left })
+        }
     }
 }
 
@@ -210,15 +254,18 @@ fn is_held<F: Read + Seek>(file: &StoredFile<F>) -> bool
 }
 
 /// What is taken of an image if no volume is chosen. Something that can't be sought in, such as a pipe, is taken as it is.
+#[tactic(auto, using(crate::proofs::UnopenedLemmas::asked_of))]
 fn chosen_part<'a, F: Read + Seek + Drop>(
     alloc: Global,
     bytes: Window<StoredFile<F>>,
     path: &'a str,
     counted: Counted,
-) -> Result<FilePart<F>, Fault<'a>>
+) -> Result<FilePart<F>, UnopenedFile<'a, F>>
     ensures pipe { IfSome (stored_bytes bytes.source) (λ _. IfOk result (λ part. part.place ≡ None)) }
+    ensures asked { IfOk result (IsAskedPart counted None) }
     ensures range { IfOk result (λ part. IsRangeAt part.place part.bytes.range) }
-    ensures fault { IfErr result (IsUnopened path.entry None) }
+    ensures told { IfErr result (TellsWhy path.entry (HasNoPart counted None) WasNotRead) }
+    ensures fault { IfErr result (λ back. IsUnopened path.entry None back.fault) }
 {
     if is_held(&bytes.source) {
         return Ok(stored_part(bytes));
@@ -229,16 +276,19 @@ fn chosen_part<'a, F: Read + Seek + Drop>(
 
 /// Opens what is asked for of an image. With a number, it is that volume in the file, or in the user data of its raw sectors; 0
 /// is the image as it is. Without one, it is what [`find_asked`] chooses if the image can be sought in, and otherwise the image
-/// as it is. What can be sought in is read on demand. Faults: as for [`open_file`] and [`part_of`].
+/// as it is. What can be sought in is read on demand. Faults, with what was read: as for [`open_file`] and [`part_of`].
+#[tactic(auto, using(crate::proofs::UnopenedLemmas::asked_of, crate::proofs::UnopenedLemmas::whole_asked, crate::proofs::UnopenedLemmas::told_of_file, crate::proofs::UnopenedLemmas::unopened_file))]
 pub fn open_asked<'a, R: Files + AllocGlobal>(
     rt: &R,
     path: &'a str,
     counted: Counted,
     volume: Option<u64>,
-) -> Result<FilePart<R::File>, Fault<'a>>
+) -> Result<FilePart<R::File>, UnopenedFile<'a, R::File>>
     ensures answer { IfOk result (λ part. IsAnswerTo volume (asked_at part.place)) }
+    ensures asked { IfOk result (IsAskedPart counted volume) }
     ensures range { IfOk result (λ part. IsRangeAt part.place part.bytes.range) }
-    ensures fault { IfErr result (IsUnopened path.entry volume) }
+    ensures told { IfErr result (TellsWhy path.entry (HasNoPart counted volume) WasNotRead) }
+    ensures fault { IfErr result (λ back. IsUnopened path.entry volume back.fault) }
 {
     let file = open_file(rt, path)?;
     match volume {
@@ -256,8 +306,9 @@ pub fn open_part<'a, R: Files + AllocGlobal>(
     rt: &R,
     path: &'a str,
     volume: Option<u64>,
-) -> Result<Window<OpenedFile<R::File>>, Fault<'a>>
-    ensures { IfErr result (IsUnopened path.entry volume) }
+) -> Result<Window<OpenedFile<R::File>>, UnopenedFile<'a, R::File>>
+    ensures told { IfErr result (TellsWhy path.entry (HasNoPart Volumes volume) WasNotRead) }
+    ensures fault { IfErr result (λ back. IsUnopened path.entry volume back.fault) }
 {
     let part = open_asked(rt, path, Counted::Volumes, volume)?;
     Ok(part.bytes)

@@ -1,12 +1,13 @@
 //! An image that was opened to be changed.
 ghost use Rattle.std.specs.Prelude.{◌≡◌, IfErr, IfOk, None, Some};
 ghost use Rattle.hfs_source.specs.Images.{HasLength, OfEach};
-ghost use Rattle.hfs_commands.specs.Faults.{IsUnreadFile, IsUnwatched};
+ghost use Rattle.hfs_commands.specs.Unopened.{HasRawSectors, TellsWhy, WasNotRead};
 ghost use Rattle.hfs_commands.specs.WatchedImages.{watched_bytes, watched_images};
 
 use crate::fault::Fault;
 use crate::files::regular_len;
 use crate::opened_file::{OpenedFile, StoredFile, content_of};
+use crate::unopened::{LeftFile, UnopenedFile};
 use crate::volume_files::{loaded, opened};
 use crate::watched_range::WatchedBytes;
 use hfs_copy::FailingBlocks;
@@ -139,18 +140,22 @@ impl<F: Read + Seek + OpenFile> WatchedBytes for WatchedImage<F> {
     }
 }
 
-/// What was opened to be changed, with its first look. Faults: `NotWritten` for raw sectors; a read failed.
+/// What was opened to be changed, with its first look. Faults: `NotWritten`, with the file, for raw sectors; a read failed.
+#[tactic(auto, using(crate::proofs::UnopenedLemmas::raw_sectors))]
 fn watched<'a, F: Read + Seek + Drop>(
     stored: Window<StoredFile<F>>,
     looks: Option<TrustedLooks<F, StoredFile<F>>>,
     path: &'a str,
-) -> Result<WatchedImage<F>, Fault<'a>>
-    ensures { IfErr result (IsUnwatched path.entry) }
+) -> Result<WatchedImage<F>, UnopenedFile<'a, F>>
+    ensures { IfErr result (TellsWhy path.entry HasRawSectors WasNotRead) }
 {
     let content = content_of(stored, path)?;
     match content.source {
         OpenedFile::Plain(file) => Ok(WatchedImage { file, looks }),
-        OpenedFile::Raw(_) => Err(Fault::NotWritten),
+        OpenedFile::Raw(user) => Err(UnopenedFile {
+            fault: Fault::NotWritten,
+            left: LeftFile::Content(OpenedFile::Raw(user)),
+        }),
     }
 }
 
@@ -166,18 +171,18 @@ pub(crate) struct LookedFile<F: Read + Seek> {
 pub(crate) fn open_looked<'a, R: Files + AllocGlobal>(
     rt: &R,
     path: &'a str,
-) -> Result<LookedFile<R::File>, Fault<'a>>
-    ensures { IfErr result (IsUnreadFile path.entry) }
+) -> Result<LookedFile<R::File>, UnopenedFile<'a, R::File>>
+    ensures { IfErr result (TellsWhy path.entry WasNotRead WasNotRead) }
 {
     let Ok(file) = File::open(rt, path) else {
-        return Err(Fault::CannotRead(path));
+        return Err(UnopenedFile::from(Fault::CannotRead(path)));
     };
     if regular_len(&file).is_none() {
         let bytes = loaded(rt.alloc(), file, path)?;
         return Ok(LookedFile { bytes, looks: None });
     }
     let Ok(looks) = TrustedLooks::open(&file) else {
-        return Err(Fault::CannotRead(path));
+        return Err(UnopenedFile::from(Fault::CannotRead(path)));
     };
     let bytes = opened(rt.alloc(), file, path)?;
     Ok(LookedFile {
@@ -187,12 +192,14 @@ pub(crate) fn open_looked<'a, R: Files + AllocGlobal>(
 }
 
 /// Opens an image by its path, to be written again with changes. A regular file is looked at, and read on demand later; of
-/// anything else all bytes are held. Faults: as for [`open_file`](crate::open_file); `NotWritten` if it has raw CD sectors.
+/// anything else all bytes are held. Faults, with what was read: as for [`open_file`](crate::open_file); `NotWritten` if it has
+/// raw CD sectors.
+#[tactic(auto, using(crate::proofs::UnopenedLemmas::told_of_file))]
 pub fn open_watched<'a, R: Files + AllocGlobal>(
     rt: &R,
     path: &'a str,
-) -> Result<WatchedImage<R::File>, Fault<'a>>
-    ensures { IfErr result (IsUnwatched path.entry) }
+) -> Result<WatchedImage<R::File>, UnopenedFile<'a, R::File>>
+    ensures { IfErr result (TellsWhy path.entry HasRawSectors WasNotRead) }
 {
     let LookedFile { bytes, looks } = open_looked(rt, path)?;
     watched(bytes, looks, path)

@@ -2,15 +2,19 @@
 ghost use Rattle.std.specs.Prelude.{◌≡◌, false, IfErr, IfOk, OnOk, Some};
 ghost use Rattle.hfs_source.specs.Asking.{IsAnswerTo, asked_in};
 ghost use Rattle.hfs_source.specs.declared.asking.Counted.TheVariants.{Ranges};
-ghost use Rattle.hfs_source.specs.declared.ranges.Layout.TheVariants.{Plain};
-ghost use Rattle.hfs_commands.specs.Faults.{IsUnopenedVolume};
+ghost use Rattle.hfs_source.specs.declared.ranges.Layout.TheVariants.{Plain, Raw};
 ghost use Rattle.hfs_source.specs.Images.{FailsWhere, OfEach};
 ghost use Rattle.hfs_commands.specs.OpenedFiles.{StaysHeld, stored_bytes, stored_images};
 ghost use Rattle.hfs_commands.specs.Parts.{asked_at};
-ghost use Rattle.hfs_commands.specs.WatchedVolumes.{has_wrong_sum, has_wrong_sum_at, lies_in, range_at, sum_at_of, IsWrongSum};
+ghost use Rattle.hfs_commands.specs.Unopened.{TellsWhy, WasNotRead};
+ghost use Rattle.hfs_commands.specs.WatchedVolumes.{HasNoVolume, IsWrongSum, has_wrong_sum, has_wrong_sum_at, lies_in, range_at, sum_at_of};
+ghost use Rattle.hfs_commands.specs.declared.opened_file.OpenedFile.TheVariants as opened;
+ghost use Rattle.hfs_commands.specs.declared.unopened.LeftFile.TheVariants as left;
+ghost use Rattle.hfs_source.specs.Raw.{layout_of};
 
 use crate::fault::Fault;
 use crate::opened_file::{OpenedFile, StoredFile, content_of};
+use crate::unopened::{LeftFile, UnopenedFile};
 use crate::volume_files::place_asked;
 use crate::watched_image::{LookedFile, WatchedImage, open_looked};
 use crate::watched_range::WatchedRange;
@@ -63,15 +67,24 @@ fn need_right_sum<'a, S: PlacedBytes>(
     }
 }
 
-/// The volume with this number in a file's bytes.
-#[tactic(auto, using(crate::proofs::HeldBytes::stays_held))]
+/// A fault of what was looked for in a file's bytes, with the file.
+fn with_file<'a, F: Read + Seek>(fault: Fault<'a>, file: StoredFile<F>) -> UnopenedFile<'a, F>
+    ensures fault { result.fault ≡ fault }
+    ensures left { result.left ≡ left.Content (opened.Plain file) }
+{
+    let left = LeftFile::Content(OpenedFile::Plain(file));
+    UnopenedFile { fault, left }
+}
+
+/// The volume with this number in a file's bytes. Faults: as for [`open_volume`].
+#[tactic(auto, using(crate::proofs::HeldBytes::stays_held, crate::proofs::UnopenedVolumes::no_volume, crate::proofs::UnopenedVolumes::wrong_sum))]
 fn volume_in<'a, F: Read + Seek + Drop>(
     alloc: Global,
     file: Window<StoredFile<F>>,
     looks: Option<TrustedLooks<F, StoredFile<F>>>,
     path: &'a str,
     number: u64,
-) -> Result<WatchedVolume<F>, Fault<'a>>
+) -> Result<WatchedVolume<F>, UnopenedFile<'a, F>>
     ensures asked { IfOk result (λ volume. OfEach (stored_images volume.blocks.bytes.bytes.file)
         (λ bytes. asked_at volume.place ≡ asked_in Plain Ranges (Some number) bytes)) }
     ensures answer { IfOk result (λ volume. IsAnswerTo (Some number) (asked_at volume.place)) }
@@ -84,15 +97,20 @@ fn volume_in<'a, F: Read + Seek + Drop>(
         (stored_images file.source)) }
     ensures stays { IfOk result (λ volume. StaysHeld (stored_bytes file.source)
         (stored_bytes volume.blocks.bytes.bytes.file)) }
-    ensures fault { IfErr result (IsUnopenedVolume path.entry number) }
+    ensures told { IfErr result (TellsWhy path.entry (HasNoVolume number) WasNotRead) }
 {
     let Window { mut source, range } = file;
     let (layout, ranges, volume) = (Layout::Plain, Counted::Ranges, Some(number));
-    let place = place_asked(alloc, &mut source, layout, path, ranges, volume)?;
+    let place = match place_asked(alloc, &mut source, layout, path, ranges, volume) {
+        Ok(place) => place,
+        Err(fault) => return Err(with_file(fault, source)),
+    };
     let (range, sum_at) = match place {
         None => (range, None),
         Some(place) => {
-            need_right_sum(&mut source, &place.found, path)?;
+            if let Err(fault) = need_right_sum(&mut source, &place.found, path) {
+                return Err(with_file(fault, source));
+            }
             (place.found.range, sum_place(&place.found))
         }
     };
@@ -106,39 +124,44 @@ fn volume_in<'a, F: Read + Seek + Drop>(
             place,
             sum_at,
         }),
-        Err(_) => Err(Fault::CannotRead(path)),
+        Err(_) => Err(UnopenedFile::from(Fault::CannotRead(path))),
     }
 }
 
 /// Why a volume with this number in the user data of raw sectors can't be opened to be changed: there is none, or it is never
 /// written.
+#[tactic(auto, using(crate::proofs::UnopenedVolumes::raw_volume, crate::proofs::UnopenedVolumes::no_raw_volume))]
 fn raw_fault<'a, F: Read + Seek + Drop>(
     alloc: Global,
     user: UserData<StoredFile<F>>,
     path: &'a str,
     number: u64,
-) -> Fault<'a>
-    ensures { IsUnopenedVolume path.entry number result }
+) -> UnopenedFile<'a, F>
+    requires { OfEach (stored_images user.bytes) (λ bytes. layout_of bytes ≡ Raw) }
+    ensures { TellsWhy path.entry (HasNoVolume number) WasNotRead result }
 {
     let mut user = user;
     let (layout, ranges) = (Layout::Raw, Counted::Ranges);
-    match place_asked(alloc, &mut user, layout, path, ranges, Some(number)) {
+    let fault = match place_asked(alloc, &mut user, layout, path, ranges, Some(number)) {
         Ok(_) => Fault::NotWritten,
         Err(fault) => fault,
-    }
+    };
+    let left = LeftFile::Content(OpenedFile::Raw(user));
+    UnopenedFile { fault, left }
 }
 
 /// Opens the volume with this number in a file, counted from 1, to write the file again with changes to that volume; 0 is the
-/// file as it is. The file is opened as by [`open_watched`](crate::open_watched). Faults: as for [`open_file`](crate::open_file)
-/// and [`part_of`](crate::part_of); `NotWritten` if it lies in raw CD sectors; `SumWrong` if the file is a disk copy whose sum
-/// isn't that of its data.
+/// file as it is. The file is opened as by [`open_watched`](crate::open_watched). Faults, with what was read: as for
+/// [`open_file`](crate::open_file) and [`part_of`](crate::part_of); `NotWritten` if it lies in raw CD sectors; `SumWrong` if the
+/// file is a disk copy whose sum isn't that of its data.
+#[tactic(auto, using(crate::proofs::UnopenedLemmas::told_of_file))]
 pub fn open_volume<'a, R: Files + AllocGlobal>(
     rt: &R,
     path: &'a str,
     number: u64,
-) -> Result<WatchedVolume<R::File>, Fault<'a>>
+) -> Result<WatchedVolume<R::File>, UnopenedFile<'a, R::File>>
     ensures answer { IfOk result (λ volume. IsAnswerTo (Some number) (asked_at volume.place)) }
-    ensures fault { IfErr result (IsUnopenedVolume path.entry number) }
+    ensures told { IfErr result (TellsWhy path.entry (HasNoVolume number) WasNotRead) }
 {
     let LookedFile { bytes, looks } = open_looked(rt, path)?;
     let Window { source, range } = content_of(bytes, path)?;

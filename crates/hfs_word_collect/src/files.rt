@@ -107,8 +107,10 @@ impl<R: Files + AllocGlobal, W> FileByPath<'_, R, W> {
                 self.held = again(&source)?;
                 Ok(source)
             }
-            Err(Fault::NoMemory) => Err(SparseFault::Memory),
-            Err(_) => Err(SparseFault::ReadFailed),
+            Err(unopened) => match unopened.fault {
+                Fault::NoMemory => Err(SparseFault::Memory),
+                _ => Err(SparseFault::ReadFailed),
+            },
         }
     }
 }

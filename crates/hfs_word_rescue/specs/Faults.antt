@@ -5,18 +5,14 @@ use Rattle.hfs_check.specs.declared.mount_fault.MountFault.{MountFault}
 use Rattle.hfs_check.specs.Report.{report_of}
 use Rattle.hfs_commands.specs.declared.fault.Fault.{Fault}
 use Rattle.hfs_commands.specs.declared.fault.Fault.TheVariants.{CannotRead, NoMemory, Refused}
-use Rattle.hfs_commands.specs.declared.opened_file.OpenedFile.{OpenedFile}
 use Rattle.hfs_commands.specs.Faults.{IsUnopened, IsUnprinted}
 use Rattle.hfs_commands.specs.OpenedFiles.{failures_of}
-use Rattle.hfs_commands.specs.SeenFiles.{parts_of}
+use Rattle.hfs_commands.specs.SeenFiles.{PartBlocks, parts_of}
 use Rattle.hfs_image.specs.Failing.{SomeReadFails}
 use Rattle.hfs_remains_forks.specs.Finds.{found_directory}
-use Rattle.hfs_source.specs.declared.blocks.BlocksOf.{BlocksOf}
 use Rattle.hfs_source.specs.declared.fetching.SparseFault.{SparseFault}
 use Rattle.hfs_source.specs.declared.fetching.SparseFault.TheVariants as sparse
-use Rattle.hfs_source.specs.declared.range.RangeBytes.{RangeBytes}
 use Rattle.hfs_source.specs.declared.ranges.ByteRange.{ByteRange}
-use Rattle.hfs_source.specs.declared.seen_blocks.SeenBlocks.{SeenBlocks}
 use Rattle.hfs_source.specs.Images.{FailsInRange, OfEach}
 use Rattle.hfs_word_take.specs.Opening.{AreBlocksAt, IsLineOf}
 use Rattle.hfs_word_rescue.specs.declared.image.HoldFault.{HoldFault}
@@ -55,9 +51,9 @@ IsUnfound path Holds HasFailed why = (fault : HoldFault) × IsUnheld Holds HasFa
 
 -- ---- what was opened
 
--- blocks of a part of a file
-abbrev pub PartBlocks : Type 0 → Type 0
-PartBlocks F = SeenBlocks (BlocksOf (RangeBytes (OpenedFile F)))
+-- none of the parts of a file that these blocks may be of has a directory, and the check of each finds this, which is told
+abbrev pub IsUnfoundPart : {F : Type 0} → PartBlocks F → Fault → Type 0
+IsUnfoundPart part why = (refusal : MountFault) × (why ≡ Refused refusal) × OfEach (parts_of part.blocks) (HasNoDirectory (Some refusal))
 
 -- a read of these blocks failed, of bytes that each part has
 abbrev pub HasFailedIn : {F : Type 0} → PartBlocks F → Type 0

@@ -4,15 +4,17 @@ ghost use Rattle.std.specs.Option.{option_map};
 ghost use Rattle.hfs_commands.specs.Faults.{IsUnopened};
 ghost use Rattle.hfs_commands.specs.OpenedFiles.{images_of};
 ghost use Rattle.hfs_commands.specs.SeenFiles.{parts_of};
+ghost use Rattle.hfs_commands.specs.Unopened.{HasNoPart, TellsWhy, WasNotRead};
 ghost use Rattle.hfs_image.specs.Failing.{SomeReadFails};
 ghost use Rattle.hfs_source.specs.Images.{OfEach};
+ghost use Rattle.hfs_source.specs.declared.asking.Counted.TheVariants.{Ranges};
 ghost use Rattle.hfs_word_take.specs.Opening.{AreBlocksAt, IsLineOf, TellsSum, TellsSumIn, TellsVolume};
-ghost use Rattle.hfs_word_rescue.specs.Faults.{HasFailedIn, IsUnfound, IsUnread, told_fault};
+ghost use Rattle.hfs_word_rescue.specs.Faults.{HasFailedIn, IsUnfound, IsUnfoundPart, IsUnread, told_fault};
 
 use crate::image::{HoldFault, RescuedImage, Unfound};
 use crate::words::RescueWords;
 use hfs_check::MountFault;
-use hfs_commands::{Counted, Fault, OpenedFile, PartBlocks, part_blocks};
+use hfs_commands::{Counted, Fault, LeftFile, OpenedFile, PartBlocks, UnopenedFile, part_blocks};
 use hfs_source::{BlocksOf, ByteRange, PlacedBlocks, RangeBytes, SeenBlocks};
 use hfs_word_take::{FoundPart, find_part};
 use std::alloc::Global;
@@ -86,17 +88,20 @@ struct FoundRange<F: Read + Seek> {
     sum: Option<bool>,
 }
 
-/// The blocks of what is asked for of an image: those of exactly the range in its line. Faults: as for [`find_part`].
+/// The blocks of what is asked for of an image: those of exactly the range in its line. Faults, with what was read: as for
+/// [`find_part`].
 fn find_range<'a, R: Files + AllocGlobal>(
     rt: &R,
     words: &RescueWords<'a>,
-) -> Result<FoundRange<R::File>, Fault<'a>>
+) -> Result<FoundRange<R::File>, UnopenedFile<'a, R::File>>
     ensures line { IfOk result (λ found. IsLineOf words.now.volume found.range
         (option_map string_bytes found.line)) }
     ensures sum { IfOk result (λ found. TellsSum (images_of found.source.blocks.bytes.bytes)
         words.now.volume found.range (option_map string_bytes found.line) found.sum) }
     ensures part { IfOk result (λ found. AreBlocksAt found.range found.source) }
-    ensures fault { IfErr result (IsUnopened words.now.image words.now.volume) }
+    ensures told { IfErr result (TellsWhy words.now.image (HasNoPart Ranges words.now.volume)
+        WasNotRead) }
+    ensures fault { IfErr result (λ back. IsUnopened words.now.image words.now.volume back.fault) }
 {
     let FoundPart { bytes, line, sum } = find_part(rt, words.image, Counted::Ranges, words.volume)?;
     let range = bytes.range;
@@ -165,20 +170,27 @@ fn load_range<'a, F: Read + Seek + Drop>(
 }
 
 /// The image that is asked for, or the range in it, even one without a volume, and what is found of it. Faults, the first that
-/// holds: it can't be read; `NoVolume`, `SeveralVolumes`; the image's own, if it has no directory; memory was refused.
+/// holds, with what was read: it can't be read; `NoVolume`, `SeveralVolumes`; the image's own, if it has no directory; memory was
+/// refused.
+#[tactic(auto, using(crate::proofs::UnreadLemmas::unfound_part))]
 pub(crate) fn load_image<'a, R: Files + AllocGlobal>(
     rt: &R,
     words: &RescueWords<'a>,
-) -> Result<LoadedImage<Part<R::File>>, Fault<'a>>
+) -> Result<LoadedImage<Part<R::File>>, UnopenedFile<'a, R::File>>
     ensures line { IfOk result (λ loaded. TellsVolume words.now.volume loaded.image.len
         (option_map string_bytes loaded.image.line)) }
     ensures sum { IfOk result (λ loaded. TellsSumIn (parts_of loaded.image.source.blocks)
         words.now.volume loaded.image.len (option_map string_bytes loaded.image.line) loaded.sum) }
-    ensures fault { IfErr result (IsUnread R.File words.now) }
+    ensures told { IfErr result (TellsWhy words.now.image (HasNoPart Ranges words.now.volume)
+        IsUnfoundPart) }
+    ensures fault { IfErr result (λ back. IsUnread R.File words.now back.fault) }
 {
     let found = find_range(rt, words)?;
     match load_range(rt.alloc(), found, words) {
         Ok(loaded) => Ok(loaded),
-        Err(Unloaded { fault, source: _ }) => Err(fault),
+        Err(Unloaded { fault, source }) => {
+            let left = LeftFile::Part(source);
+            Err(UnopenedFile { fault, left })
+        }
     }
 }

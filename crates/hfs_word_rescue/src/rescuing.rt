@@ -186,7 +186,7 @@ pub fn rescue<'a, R: Files + AllocGlobal, W: Watch>(
 {
     let LoadedImage { image, sum } = match load_image(rt, &words.words) {
         Ok(loaded) => loaded,
-        Err(fault) => return Err(TakeFault::Image(fault)),
+        Err(unopened) => return Err(TakeFault::Image(unopened.fault)),
     };
     let answer = rescue_loaded(rt, image, words, watch)?;
     Ok(Rescued { answer, sum })

@@ -8,11 +8,15 @@ use Rattle.hfs_bag.specs.declared.source.SourceFault.TheVariants as source
 use Rattle.hfs_check.specs.declared.mount_fault.MountFault.TheVariants as mount
 use Rattle.hfs_commands.specs.declared.fault.Fault.{Fault}
 use Rattle.hfs_commands.specs.declared.fault.Fault.TheVariants.{CannotRead, NoMemory, Refused}
+use Rattle.hfs_commands.specs.declared.opened_file.OpenedFile.{OpenedFile}
+use Rattle.hfs_commands.specs.declared.unopened.LeftFile.TheVariants.{Part}
 use Rattle.hfs_commands.specs.Faults.{IsUnopened, KeepsRefusal}
+use Rattle.hfs_commands.specs.SeenFiles.{PartBlocks, parts_of}
+use Rattle.hfs_commands.specs.Unopened.{IsReadFault, IsRefusedPart, TellsWhy}
+use Rattle.hfs_image.specs.Seen.{IsRefusedBy}
+use Rattle.hfs_source.specs.Images.{OfEach}
 use Rattle.hfs_image.specs.declared.opening.NeededFault.{NeededFault}
 use Rattle.hfs_image.specs.declared.opening.NeededFault.TheVariants as needed
-use Rattle.hfs_source.specs.declared.fetching.SparseFault.{SparseFault}
-use Rattle.hfs_source.specs.declared.fetching.SparseFault.TheVariants as sparse
 use Rattle.hfs_bag.specs.declared.shelf_fault.ShelfFault.{ShelfFault}
 use Rattle.hfs_bag.specs.declared.shelf_fault.ShelfFault.TheVariants as shelf
 use Rattle.hfs_bag.specs.ShelfPaths.{IsNewFolder}
@@ -20,7 +24,7 @@ use Rattle.hfs_bag.specs.Told.{Tells, TellsNewFolder, TellsWithin}
 use Rattle.hfs_word_take.specs.declared.fault.TakeFault.{TakeFault}
 use Rattle.hfs_word_take.specs.declared.fault.TakeFault.TheVariants as take
 use Rattle.hfs_word_take.specs.declared.words.TakeWords.{TakeWords}
-use Rattle.hfs_word_take.specs.TakeFaults.{IsImageFault, IsReadFault, IsTakeFault, IsUnwritten, KeepsShelfFault, fault_of_shelf, needed_fault}
+use Rattle.hfs_word_take.specs.TakeFaults.{IsImageFault, IsTakeFault, IsUntaken, IsUnwritten, KeepsShelfFault, fault_of_shelf, needed_fault}
 
 unread : (words : TakeWords) (found : Fault) → found ≡ CannotRead words.image → IsImageFault words found
 unread words found is = inl (inl is)
@@ -40,11 +44,17 @@ of_needed words needed.ReadFailed found told = unread words found told
 of_needed words needed.Memory found told = unstored words found told
 of_needed words (needed.Refused why) found told = inr (why, told)
 
--- what is told of a read that failed
-pub read_fault : (path : Bor (List ℕ)) (why : SparseFault) (found : Fault) → (why ≡ sparse.ReadFailed → found ≡ CannotRead path) → (why ≡ sparse.Memory → found ≡ NoMemory)
-    → IsReadFault path found
-read_fault path sparse.ReadFailed found read memory = inl (read refl)
-read_fault path sparse.Memory found read memory = inr (memory refl)
+-- what is told of blocks that were opened and aren't taken
+pub untaken_part : {F : Type 0} (path : Bor (List ℕ)) (Tells : OpenedFile F → Fault → Type 0) (Held : List ℕ → Type 0) (Fails : ℕ → ℕ → Type 0)
+    (part : PartBlocks F) (found : Fault) → IsUntaken path Held Fails (parts_of part.blocks) found
+    → TellsWhy path Tells IsRefusedPart (record { fault = found; left = Part part })
+untaken_part path Tells Held Fails part found is = by is.why is.told is.refused
+  where
+    by : (why : NeededFault) → found ≡ needed_fault path why → OfEach (parts_of part.blocks) (IsRefusedBy why)
+        → TellsWhy path Tells IsRefusedPart (record { fault = found; left = Part part })
+    by needed.ReadFailed told refused = inl (inl told)
+    by needed.Memory told refused = inl (inr told)
+    by (needed.Refused why) told refused = inr (why, told, λ image holds. refused image holds why refl)
 
 pub unopened : (path : Bor (List ℕ)) (volume : Option ℕ) (found : Fault) → IsReadFault path found → IsUnopened path volume found
 unopened path volume found (inl read) = inl read

@@ -43,10 +43,6 @@ take_status (take.CannotWrite path) = DeviceFailed
 
 -- ---- the opening
 
--- a read of the file at this path failed, or memory was refused
-abbrev pub IsReadFault : Bor (List ℕ) → Fault → Type 0
-IsReadFault path why = (why ≡ CannotRead path) ⊎ (why ≡ NoMemory)
-
 -- what is told of the file at this path, where an image in it was not opened
 abbrev pub needed_fault : Bor (List ℕ) → NeededFault → Fault
 needed_fault path needed.ReadFailed = CannotRead path

@@ -2,19 +2,21 @@
 ghost use Rattle.std.specs.Prelude.{◌≡◌, Err, IfErr, IfOk, IfSome, None, Ok, string_bytes};
 ghost use Rattle.std.specs.Option.{option_map};
 ghost use Rattle.hfs_commands.specs.Faults.{IsUnopened};
+ghost use Rattle.hfs_commands.specs.Unopened.{HasNoPart, IsReadFault, IsRefusedPart, TellsWhy, WasNotRead};
+ghost use Rattle.hfs_source.specs.declared.asking.Counted.TheVariants.{Volumes};
 ghost use Rattle.hfs_commands.specs.OpenedFiles.{AreHeldOthers, held_bytes, images_of, stored_bytes};
 ghost use Rattle.hfs_commands.specs.SeenFiles.{parts_of};
 ghost use Rattle.hfs_image.specs.Seen.{HasNoFault};
 ghost use Rattle.hfs_source.specs.Images.{OfEach};
-ghost use Rattle.hfs_word_take.specs.TakeFaults.{IsImageFault, IsReadFault, IsUntaken, needed_fault};
+ghost use Rattle.hfs_word_take.specs.TakeFaults.{IsImageFault, IsUntaken, needed_fault};
 ghost use Rattle.hfs_word_take.specs.Opening.{AreBlocksAt, HasLengthIfSound, IsLineOf, IsSumAt, IsToldLine, IsToldPart, TellsSum, TellsSumIn, TellsVolume};
 
 use crate::facts::volume_text;
 use crate::image::TakenImage;
 use crate::words::TakeWords;
 use hfs_commands::{
-    Counted, Fault, FilePart, NumberedRange, OpenedFile, PartBlocks, StoredFile, UserData, Window,
-    open_asked, part_blocks,
+    Counted, Fault, FilePart, LeftFile, NumberedRange, OpenedFile, PartBlocks, StoredFile,
+    UnopenedFile, UserData, Window, open_asked, part_blocks,
 };
 use hfs_image::Unopened;
 use hfs_source::{
@@ -38,7 +40,7 @@ pub struct FoundPart<F: Read + Seek> {
 }
 
 /// What was read of the file at this path, or the fault that is told of it.
-#[tactic(auto, using(crate::proofs::FaultLemmas::read_fault))]
+#[tactic(auto, using(hfs_commands::proofs::UnopenedLemmas::of_sparse))]
 fn told_read<'a, T>(read: Result<T, SparseFault>, path: &'a str) -> Result<T, Fault<'a>>
     ensures read { IfOk result (λ found. read ≡ Ok found) }
     ensures failed { read ≡ Err SparseFault.ReadFailed
@@ -101,20 +103,21 @@ fn told_part<'a, F: Read + Seek + Drop>(
     })
 }
 
-/// What is asked for of an image, given the number of a volume in it or none, as [`open_asked`] opens it, and its line. Faults:
-/// as for [`open_asked`].
+/// What is asked for of an image, given the number of a volume in it or none, as [`open_asked`] opens it, and its line. Faults,
+/// with what was read: as for [`open_asked`].
 #[tactic(auto, using(crate::proofs::PartLines::line_of_part, crate::proofs::PartLines::sum_of_part, crate::proofs::FaultLemmas::unopened))]
 pub fn find_part<'a, R: Files + AllocGlobal>(
     rt: &R,
     path: &'a str,
     counted: Counted,
     volume: Option<u64>,
-) -> Result<FoundPart<R::File>, Fault<'a>>
+) -> Result<FoundPart<R::File>, UnopenedFile<'a, R::File>>
     ensures line { IfOk result (λ part. IsLineOf volume part.bytes.range
         (option_map string_bytes part.line)) }
     ensures sum { IfOk result (λ part. TellsSum (images_of part.bytes.source) volume
         part.bytes.range (option_map string_bytes part.line) part.sum) }
-    ensures fault { IfErr result (IsUnopened path.entry volume) }
+    ensures told { IfErr result (TellsWhy path.entry (HasNoPart counted volume) WasNotRead) }
+    ensures fault { IfErr result (λ back. IsUnopened path.entry volume back.fault) }
 {
     let part = open_asked(rt, path, counted, volume)?;
     let found = told_part(rt.alloc(), part, path)?;
@@ -222,18 +225,20 @@ struct FoundBlocks<F: Read + Seek> {
 }
 
 /// The blocks of what is asked for of an image, twice if its digest is to be made at the same time: those of exactly the range in
-/// its line. Faults: as for [`open_asked`].
+/// its line. Faults, with what was read: as for [`open_asked`].
 fn find_blocks<'a, R: Files + AllocGlobal>(
     rt: &R,
     words: &TakeWords<'a>,
-) -> Result<FoundBlocks<R::File>, Fault<'a>>
+) -> Result<FoundBlocks<R::File>, UnopenedFile<'a, R::File>>
     ensures line { IfOk result (λ found. IsLineOf words.now.volume found.range
         (option_map string_bytes found.line)) }
     ensures sum { IfOk result (λ found. TellsSum (images_of found.source.blocks.bytes.bytes)
         words.now.volume found.range (option_map string_bytes found.line) found.sum) }
     ensures part { IfOk result (λ found. AreBlocksAt found.range found.source) }
     ensures beside { IfOk result (λ found. IfSome found.beside (AreBlocksAt found.range)) }
-    ensures fault { IfErr result (IsUnopened words.now.image words.now.volume) }
+    ensures told { IfErr result (TellsWhy words.now.image (HasNoPart Volumes words.now.volume)
+        WasNotRead) }
+    ensures fault { IfErr result (λ back. IsUnopened words.now.image words.now.volume back.fault) }
 {
     let was = fs::metadata(rt, words.image);
     let FoundPart { bytes, line, sum } = find_part(
@@ -330,18 +335,20 @@ pub(crate) struct OpenedTake<S: PlacedBlocks> {
 type PlacedPart<F> = BlocksOf<RangeBytes<OpenedFile<F>>>;
 
 /// Opens what is to be taken, twice if its digest is to be made at the same time, and makes all checks. Faults, the first that
-/// holds: the image can't be read; `NoVolume`, `SeveralVolumes`; the image's own, which is `Short` if the range doesn't lie in its
-/// file; memory was refused.
+/// holds, with what was read: the image can't be read; `NoVolume`, `SeveralVolumes`; the image's own, which is `Short` if the
+/// range doesn't lie in its file; memory was refused.
 pub(crate) fn open_image<'a, R: Files + AllocGlobal>(
     rt: &R,
     words: &TakeWords<'a>,
-) -> Result<OpenedTake<PlacedPart<R::File>>, Fault<'a>>
+) -> Result<OpenedTake<PlacedPart<R::File>>, UnopenedFile<'a, R::File>>
     ensures line { IfOk result (λ opened. TellsVolume words.now.volume opened.image.len
         (option_map string_bytes opened.image.volume)) }
     ensures sum { IfOk result (λ opened. TellsSumIn (parts_of opened.image.opened)
         words.now.volume opened.image.len (option_map string_bytes opened.image.volume) opened.sum) }
     ensures sound { IfOk result (λ opened. OfEach (parts_of opened.image.opened) HasNoFault) }
-    ensures fault { IfErr result (IsImageFault words.now) }
+    ensures told { IfErr result (TellsWhy words.now.image (HasNoPart Volumes words.now.volume)
+        IsRefusedPart) }
+    ensures fault { IfErr result (λ back. IsImageFault words.now back.fault) }
 {
     let FoundBlocks {
         source,
@@ -352,6 +359,9 @@ pub(crate) fn open_image<'a, R: Files + AllocGlobal>(
     } = find_blocks(rt, words)?;
     match open_found(rt.alloc(), source, beside, line, range.len, words) {
         Ok(image) => Ok(OpenedTake { image, sum }),
-        Err(Untaken { fault, source: _ }) => Err(fault),
+        Err(Untaken { fault, source }) => {
+            let left = LeftFile::Part(source);
+            Err(UnopenedFile { fault, left })
+        }
     }
 }

@@ -190,7 +190,7 @@ where
 {
     let OpenedTake { image, sum } = match open_image(rt, words) {
         Ok(opened) => opened,
-        Err(fault) => return Err(TakeFault::Image(fault)),
+        Err(unopened) => return Err(TakeFault::Image(unopened.fault)),
     };
     let system = SystemFiles::new(rt);
     match take_opened(rt.alloc(), system, threads, image, words, watch) {

@@ -59,8 +59,10 @@ impl<'a> Word<'a> for Check<'a> {
     ) -> Result<u8, Fault<'a>> {
         match open_part(rt, self.image.path, self.image.volume) {
             Ok(part) => check_blocks(rt, self.image.path, part_blocks(part)),
-            Err(Fault::Refused(why)) => print_refused(rt, why),
-            Err(fault) => Err(fault),
+            Err(unopened) => match unopened.fault {
+                Fault::Refused(why) => print_refused(rt, why),
+                fault => Err(fault),
+            },
         }
     }
 }

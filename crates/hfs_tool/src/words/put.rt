@@ -163,7 +163,7 @@ fn put_at<'w, 'r, 'a>(
     let now = moment(rt, words.now);
     let volume = match open_volume(rt, words.image.path, words.image.volume.unwrap_or(0)) {
         Ok(volume) => volume,
-        Err(fault) => return Err(PutFault::Image(fault)),
+        Err(unopened) => return Err(PutFault::Image(unopened.fault)),
     };
     let order = PutOrder {
         sources: words.sources.as_slice(),

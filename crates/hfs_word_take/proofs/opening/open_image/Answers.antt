@@ -3,8 +3,10 @@ use Rattle.std.proofs.Common.{◌≡◌, Global, rules, string_bytes, subst, sym
 use Rattle.std.specs.Option.{option_map}
 use Rattle.hfs_commands.specs.OpenedFiles.{images_of}
 use Rattle.hfs_commands.specs.SeenFiles.{parts_of}
+use Rattle.hfs_commands.specs.Unopened.{HasNoPart}
+use Rattle.hfs_source.specs.declared.asking.Counted.TheVariants.{Volumes}
 use Rattle.hfs_word_take.specs.Opening.{TellsSumIn}
-use Rattle.hfs_word_take.proofs.FaultLemmas.{of_needed}
+use Rattle.hfs_word_take.proofs.FaultLemmas.{of_needed, untaken_part}
 use Rattle.hfs_word_take.proofs.PartLines.{length_if_sound, sum_in_part}
 use Rattle.hfs_word_take.proofs.opening.open_image.Goals as goal
 
@@ -14,10 +16,15 @@ open_found-requires g c =
     let part = found.source.blocks.bytes in
     length_if_sound (images_of part.bytes) found.range part.start part.len c.in_ok-source.ensures.part
 
-pub returns-clause-fault : goal.returns-clause-fault
-returns-clause-fault g c =
+pub returns-in-Err-clause-fault : goal.returns-in-Err-clause-fault
+returns-in-Err-clause-fault g c =
     let is = c.in-Err.ensures.told in
     of_needed c.args.words.now is.why c.in-Err.field-0.fault is.told
+
+pub returns-in-Err-clause-told : goal.returns-in-Err-clause-told
+returns-in-Err-clause-told g c =
+    untaken_part c.args.words.now.image (HasNoPart Volumes c.args.words.now.volume) _ _ c.in-Err.field-0.source c.in-Err.field-0.fault
+    c.in-Err.ensures.told
 
 pub returns-in-Ok-clause-sum : goal.returns-in-Ok-clause-sum
 returns-in-Ok-clause-sum g c =

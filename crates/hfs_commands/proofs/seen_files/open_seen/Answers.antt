@@ -1,0 +1,10 @@
+-- What is told of the blocks that are handed back.
+use Rattle.hfs_commands.specs.Unopened.{HasNoPart}
+use Rattle.hfs_commands.proofs.UnopenedLemmas.{refused_part}
+use Rattle.hfs_commands.proofs.seen_files.open_seen.Goals as goal
+use Rattle.hfs_source.specs.declared.asking.Counted.TheVariants.{Volumes}
+
+pub returns-in-Err-clause-told : goal.returns-in-Err-clause-told
+returns-in-Err-clause-told g c =
+    refused_part c.args.path (HasNoPart Volumes c.args.volume) c.in-Err.field-0.source c.in-Err.field-0.fault c.of_needed-fault.result
+    c.of_needed-fault.ensures.read c.of_needed-fault.ensures.memory c.of_needed-fault.ensures.refused c.in-Err.ensures.refused
