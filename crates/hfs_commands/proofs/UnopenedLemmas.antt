@@ -15,7 +15,7 @@ use Rattle.hfs_commands.specs.Faults.{IsRefusal, IsUnopened, KeepsRefusal}
 use Rattle.hfs_commands.specs.OpenedFiles.{images_of, opened_layout, stored_images}
 use Rattle.hfs_commands.specs.Parts.{IsAskedIn, asked_at}
 use Rattle.hfs_commands.specs.SeenFiles.{PartBlocks, parts_of}
-use Rattle.hfs_commands.specs.Unopened.{AreNoPart, HasNoPart, HasRawSectors, IsNoPart, IsReadFault, IsRefusedPart, IsTooLarge, TellsLeft, TellsPlace, TellsWhy, WasNotRead}
+use Rattle.hfs_commands.specs.Unopened.{AreNoPart, HasNoPart, HasRawSectors, IsNoPart, IsReadFault, IsRefusedPart, TellsLeft, TellsPlace, TellsWhy, WasNotRead}
 use Rattle.hfs_image.specs.declared.opening.NeededFault.{NeededFault}
 use Rattle.hfs_image.specs.declared.opening.NeededFault.TheVariants as needed
 use Rattle.hfs_image.specs.Seen.{IsRefusedBy}

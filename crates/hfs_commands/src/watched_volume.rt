@@ -8,8 +8,7 @@ ghost use Rattle.hfs_commands.specs.OpenedFiles.{StaysHeld, stored_bytes, stored
 ghost use Rattle.hfs_commands.specs.Parts.{asked_at};
 ghost use Rattle.hfs_commands.specs.Unopened.{TellsWhy, WasNotRead};
 ghost use Rattle.hfs_commands.specs.WatchedVolumes.{HasNoVolume, IsWrongSum, has_wrong_sum, has_wrong_sum_at, lies_in, range_at, sum_at_of};
-ghost use Rattle.hfs_commands.specs.declared.opened_file.OpenedFile.TheVariants as opened;
-ghost use Rattle.hfs_commands.specs.declared.unopened.LeftFile.TheVariants as left;
+ghost use Rattle.hfs_commands.specs.declared.unopened.LeftFile.TheVariants.{Content};
 ghost use Rattle.hfs_source.specs.Raw.{layout_of};
 
 use crate::fault::Fault;
@@ -68,11 +67,11 @@ fn need_right_sum<'a, S: PlacedBytes>(
 }
 
 /// A fault of what was looked for in a file's bytes, with the file.
-fn with_file<'a, F: Read + Seek>(fault: Fault<'a>, file: StoredFile<F>) -> UnopenedFile<'a, F>
-    ensures fault { result.fault ≡ fault }
-    ensures left { result.left ≡ left.Content (opened.Plain file) }
+fn with_file<'a, F: Read + Seek>(fault: Fault<'a>, file: OpenedFile<F>) -> UnopenedFile<'a, F>
+    ensures fault { result.fault ≡ fault.entry }
+    ensures left { result.left ≡ Content file }
 {
-    let left = LeftFile::Content(OpenedFile::Plain(file));
+    let left = LeftFile::Content(file);
     UnopenedFile { fault, left }
 }
 
@@ -103,13 +102,13 @@ fn volume_in<'a, F: Read + Seek + Drop>(
     let (layout, ranges, volume) = (Layout::Plain, Counted::Ranges, Some(number));
     let place = match place_asked(alloc, &mut source, layout, path, ranges, volume) {
         Ok(place) => place,
-        Err(fault) => return Err(with_file(fault, source)),
+        Err(fault) => return Err(with_file(fault, OpenedFile::Plain(source))),
     };
     let (range, sum_at) = match place {
         None => (range, None),
         Some(place) => {
             if let Err(fault) = need_right_sum(&mut source, &place.found, path) {
-                return Err(with_file(fault, source));
+                return Err(with_file(fault, OpenedFile::Plain(source)));
             }
             (place.found.range, sum_place(&place.found))
         }
@@ -130,7 +129,7 @@ fn volume_in<'a, F: Read + Seek + Drop>(
 
 /// Why a volume with this number in the user data of raw sectors can't be opened to be changed: there is none, or it is never
 /// written.
-#[tactic(auto, using(crate::proofs::UnopenedVolumes::raw_volume, crate::proofs::UnopenedVolumes::no_raw_volume))]
+#[tactic(auto, using(crate::proofs::UnopenedVolumes::no_volume))]
 fn raw_fault<'a, F: Read + Seek + Drop>(
     alloc: Global,
     user: UserData<StoredFile<F>>,
@@ -142,12 +141,10 @@ fn raw_fault<'a, F: Read + Seek + Drop>(
 {
     let mut user = user;
     let (layout, ranges) = (Layout::Raw, Counted::Ranges);
-    let fault = match place_asked(alloc, &mut user, layout, path, ranges, Some(number)) {
-        Ok(_) => Fault::NotWritten,
-        Err(fault) => fault,
-    };
-    let left = LeftFile::Content(OpenedFile::Raw(user));
-    UnopenedFile { fault, left }
+    match place_asked(alloc, &mut user, layout, path, ranges, Some(number)) {
+        Ok(_) => with_file(Fault::NotWritten, OpenedFile::Raw(user)),
+        Err(fault) => with_file(fault, OpenedFile::Raw(user)),
+    }
 }
 
 /// Opens the volume with this number in a file, counted from 1, to write the file again with changes to that volume; 0 is the
