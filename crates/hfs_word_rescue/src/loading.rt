@@ -172,7 +172,6 @@ fn load_range<'a, F: Read + Seek + Drop>(
 /// The image that is asked for, or the range in it, even one without a volume, and what is found of it. Faults, the first that
 /// holds, with what was read: it can't be read; `NoVolume`, `SeveralVolumes`; the image's own, if it has no directory; memory was
 /// refused.
-#[tactic(auto, using(crate::proofs::UnreadLemmas::unfound_part))]
 pub(crate) fn load_image<'a, R: Files + AllocGlobal>(
     rt: &R,
     words: &RescueWords<'a>,

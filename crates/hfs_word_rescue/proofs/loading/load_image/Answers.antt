@@ -1,10 +1,14 @@
 -- Nothing was found of what was opened.
 use Rattle.std.proofs.Common.{Global, inr, string_bytes}
 use Rattle.std.specs.Option.{option_map}
+use Rattle.hfs_commands.specs.Unopened.{HasNoPart}
+use Rattle.hfs_source.specs.declared.asking.Counted.TheVariants.{Ranges}
+use Rattle.hfs_word_rescue.specs.Faults.{HasFailedIn}
+use Rattle.hfs_word_rescue.proofs.UnreadLemmas.{unfound_part}
 use Rattle.hfs_word_rescue.proofs.loading.load_image.Goals as goal
 
-pub returns-clause-fault : goal.returns-clause-fault
-returns-clause-fault g c =
+pub returns-in-Err-clause-fault : goal.returns-in-Err-clause-fault
+returns-in-Err-clause-fault g c =
     let found = c.in_ok-found.found in
     inr (record {
       range = found.range;
@@ -16,3 +20,8 @@ returns-clause-fault g c =
       narrows = c.in-Err.ensures.back;
       told = c.in-Err.ensures.told;
     })
+
+pub returns-in-Err-clause-told : goal.returns-in-Err-clause-told
+returns-in-Err-clause-told g c =
+    unfound_part c.args.words.now.image (HasNoPart Ranges c.args.words.now.volume) (HasFailedIn c.in_ok-found.found.source) c.in-Err.field-0.source
+    c.in-Err.field-0.fault c.in-Err.ensures.told
