@@ -1,5 +1,5 @@
 //! Scripts run on images, of which only what the scripts need is read.
-ghost use Rattle.std.specs.Prelude.{◌≡◌, ◌≤◌, ◌⊎◌, ◌/◌, All, IfErr, IfOk, Ok, Some, length};
+ghost use Rattle.std.specs.Prelude.{◌≡◌, ◌<◌, ◌≤◌, ◌⊎◌, ◌/◌, All, IfErr, IfOk, Ok, Some, length};
 ghost use Rattle.hfs_blocks.specs.Layers.{changes, AreWithin};
 ghost use Rattle.hfs_check.specs.Faults.{fault_of};
 ghost use Rattle.hfs_runs.specs.Asking.{IsSmall};
@@ -114,7 +114,7 @@ pub fn script_lines(alloc: Global, bytes: &[u8], now: u32) -> Result<Script, Fau
 impl<S: FailingBlocks + Drop> RunImage<S> {
     /// Reads those blocks of an image of `len` bytes that calls read and write, and makes all checks. An image that is refused is
     /// returned with its first fault, which counts only once the script was read. `path` is what was opened. Faults: `CannotRead`
-    /// if a read of bytes that it has fails, `Refused(TooLarge)`, `NoMemory`.
+    /// if a read of bytes that it has fails, `Refused(TooLarge)` if it has more than 2,147,483,648 bytes, `NoMemory`.
     pub fn open<'a>(
         alloc: Global,
         source: S,
@@ -135,6 +135,8 @@ impl<S: FailingBlocks + Drop> RunImage<S> {
         ensures fault { IfErr result (λ why. (why ≡ Fault.CannotRead path.entry) ⊎ IsTooMuch why) }
         ensures failed { IfErr result (λ why. why ≡ Fault.CannotRead path.entry
             → SomeFailsWithin len (S.Fails source)) }
+        ensures large { IfErr result (λ why. why ≡ Fault.Refused MountFault.TooLarge
+            → 2147483648 < len) }
     {
         if len > IMAGE_LIMIT as u64 {
             return Err(Fault::Refused(MountFault::TooLarge));
