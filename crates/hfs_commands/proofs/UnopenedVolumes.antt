@@ -2,12 +2,13 @@
 use Rattle.std.proofs.Common.{◌≡◌, ℕ, List, Some, refl, subst, sym, inl, inr}
 use Rattle.std.specs.Borrow.{Bor}
 use Rattle.hfs_commands.specs.declared.fault.Fault.{Fault}
-use Rattle.hfs_commands.specs.declared.fault.Fault.TheVariants.{NotWritten}
+use Rattle.hfs_commands.specs.declared.fault.Fault.TheVariants.{CannotRead, NoMemory, NotWritten, SumWrong}
 use Rattle.hfs_commands.specs.declared.opened_file.OpenedFile.{OpenedFile}
 use Rattle.hfs_commands.specs.declared.opened_file.OpenedFile.TheVariants.{Raw}
 use Rattle.hfs_commands.specs.declared.opened_file.StoredFile.{StoredFile}
 use Rattle.hfs_commands.specs.declared.unopened.LeftFile.TheVariants.{Content}
 use Rattle.hfs_commands.specs.declared.unopened.UnopenedFile.{UnopenedFile}
+use Rattle.hfs_commands.specs.Faults.{IsUnopened, IsUnopenedVolume}
 use Rattle.hfs_commands.specs.OpenedFiles.{images_of, opened_layout, stored_images}
 use Rattle.hfs_commands.specs.Unopened.{IsReadFault, TellsLeft, TellsPlace, TellsWhy, WasNotRead}
 use Rattle.hfs_commands.specs.WatchedVolumes.{HasNoVolume, IsWrongSum}
@@ -19,6 +20,7 @@ use Rattle.hfs_source.specs.declared.asking.Asked.TheVariants.{Inside}
 use Rattle.hfs_source.specs.declared.asking.Counted.TheVariants.{Ranges}
 use Rattle.hfs_source.specs.declared.asking.NumberedRange.{NumberedRange}
 use Rattle.hfs_source.specs.declared.data.UserData.{UserData}
+use Rattle.hfs_source.specs.declared.ranges.FoundRange.{FoundRange}
 use Rattle.hfs_source.specs.declared.ranges.Layout.TheVariants as layout
 
 -- what is told of a file that was handed back
@@ -56,3 +58,19 @@ pub raw_volume : {F : Type 0} (path : Bor (List ℕ)) (number : ℕ) (old new : 
 raw_volume path number old new unopened fault left raw held =
     handed path number (Raw new) NotWritten unopened fault left
     (inr (inl (refl, λ image holds. (let of = held image holds in (of.0, raw of.0 of.1, of.2)))))
+
+-- ---- which faults there are, whatever was read
+
+pub same_fault : {F : Type 0} (path : Bor (List ℕ)) (number : ℕ) (why : Fault) (unopened : UnopenedFile F) → unopened.fault ≡ why → IsUnopened path (Some number) why
+    → IsUnopenedVolume path number unopened.fault
+same_fault path number why unopened fault is = inl (subst (IsUnopened path (Some number)) (sym fault) is)
+
+pub raw_told : {F : Type 0} (path : Bor (List ℕ)) (number : ℕ) (unopened : UnopenedFile F) → unopened.fault ≡ NotWritten
+    → IsUnopenedVolume path number unopened.fault
+raw_told path number unopened fault = inr (inl fault)
+
+pub sum_fault : {F : Type 0} (path : Bor (List ℕ)) (number : ℕ) (Holds : List ℕ → Type 0) (found : FoundRange) (why : Fault) (unopened : UnopenedFile F)
+    → unopened.fault ≡ why → IsWrongSum Holds found path why → IsUnopenedVolume path number unopened.fault
+sum_fault path number Holds found why unopened fault (inl wrong) = inr (inr (subst (λ (f : Fault). f ≡ SumWrong) (sym fault) wrong.0))
+sum_fault path number Holds found why unopened fault (inr (inl read)) = inl (inl (subst (λ (f : Fault). f ≡ CannotRead path) (sym fault) read))
+sum_fault path number Holds found why unopened fault (inr (inr memory)) = inl (inr (inl (inr (subst (λ (f : Fault). f ≡ NoMemory) (sym fault) memory))))

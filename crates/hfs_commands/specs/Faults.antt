@@ -86,6 +86,10 @@ IsUnnamed (Some n) why = why ≡ fault.NoVolume n
 abbrev pub IsUnopened : Bor (List ℕ) → Option ℕ → Fault → Type 0
 IsUnopened path volume why = (why ≡ fault.CannotRead path) ⊎ (IsTooMuch why ⊎ IsUnnamed volume why)
 
+-- a volume in a file that is to be changed was not opened: there is none with this number, it can't be read, it isn't written, or its sum is wrong
+abbrev pub IsUnopenedVolume : Bor (List ℕ) → ℕ → Fault → Type 0
+IsUnopenedVolume path number why = IsUnopened path (Some number) why ⊎ ((why ≡ fault.NotWritten) ⊎ (why ≡ fault.SumWrong))
+
 -- a script has too many bytes, or more than there is memory for
 abbrev pub IsTooMuchScript : Fault → Type 0
 IsTooMuchScript why = (why ≡ fault.ScriptTooLarge) ⊎ (why ≡ fault.NoMemory)

@@ -4,6 +4,7 @@ ghost use Rattle.hfs_source.specs.Asking.{IsAnswerTo, asked_in};
 ghost use Rattle.hfs_source.specs.declared.asking.Counted.TheVariants.{Ranges};
 ghost use Rattle.hfs_source.specs.declared.ranges.Layout.TheVariants.{Plain, Raw};
 ghost use Rattle.hfs_source.specs.Images.{FailsWhere, OfEach};
+ghost use Rattle.hfs_commands.specs.Faults.{IsUnopenedVolume};
 ghost use Rattle.hfs_commands.specs.OpenedFiles.{StaysHeld, stored_bytes, stored_images};
 ghost use Rattle.hfs_commands.specs.Parts.{asked_at};
 ghost use Rattle.hfs_commands.specs.Unopened.{TellsWhy, WasNotRead};
@@ -76,7 +77,7 @@ fn with_file<'a, F: Read + Seek>(fault: Fault<'a>, file: OpenedFile<F>) -> Unope
 }
 
 /// The volume with this number in a file's bytes. Faults: as for [`open_volume`].
-#[tactic(auto, using(crate::proofs::HeldBytes::stays_held, crate::proofs::UnopenedVolumes::no_volume, crate::proofs::UnopenedVolumes::wrong_sum))]
+#[tactic(auto, using(crate::proofs::HeldBytes::stays_held, crate::proofs::UnopenedVolumes::no_volume, crate::proofs::UnopenedVolumes::wrong_sum, crate::proofs::UnopenedVolumes::same_fault, crate::proofs::UnopenedVolumes::sum_fault))]
 fn volume_in<'a, F: Read + Seek + Drop>(
     alloc: Global,
     file: Window<StoredFile<F>>,
@@ -97,6 +98,7 @@ fn volume_in<'a, F: Read + Seek + Drop>(
     ensures stays { IfOk result (λ volume. StaysHeld (stored_bytes file.source)
         (stored_bytes volume.blocks.bytes.bytes.file)) }
     ensures told { IfErr result (TellsWhy path.entry (HasNoVolume number) WasNotRead) }
+    ensures fault { IfErr result (λ back. IsUnopenedVolume path.entry number back.fault) }
 {
     let Window { mut source, range } = file;
     let (layout, ranges, volume) = (Layout::Plain, Counted::Ranges, Some(number));
@@ -129,7 +131,7 @@ fn volume_in<'a, F: Read + Seek + Drop>(
 
 /// Why a volume with this number in the user data of raw sectors can't be opened to be changed: there is none, or it is never
 /// written.
-#[tactic(auto, using(crate::proofs::UnopenedVolumes::no_volume))]
+#[tactic(auto, using(crate::proofs::UnopenedVolumes::no_volume, crate::proofs::UnopenedVolumes::same_fault, crate::proofs::UnopenedVolumes::raw_told))]
 fn raw_fault<'a, F: Read + Seek + Drop>(
     alloc: Global,
     user: UserData<StoredFile<F>>,
@@ -137,7 +139,8 @@ fn raw_fault<'a, F: Read + Seek + Drop>(
     number: u64,
 ) -> UnopenedFile<'a, F>
     requires { OfEach (stored_images user.bytes) (λ bytes. layout_of bytes ≡ Raw) }
-    ensures { TellsWhy path.entry (HasNoVolume number) WasNotRead result }
+    ensures told { TellsWhy path.entry (HasNoVolume number) WasNotRead result }
+    ensures fault { IsUnopenedVolume path.entry number result.fault }
 {
     let mut user = user;
     let (layout, ranges) = (Layout::Raw, Counted::Ranges);
@@ -151,7 +154,7 @@ fn raw_fault<'a, F: Read + Seek + Drop>(
 /// file as it is. The file is opened as by [`open_watched`](crate::open_watched). Faults, with what was read: as for
 /// [`open_file`](crate::open_file) and [`part_of`](crate::part_of); `NotWritten` if it lies in raw CD sectors; `SumWrong` if the
 /// file is a disk copy whose sum isn't that of its data.
-#[tactic(auto, using(crate::proofs::UnopenedLemmas::told_of_file))]
+#[tactic(auto, using(crate::proofs::UnopenedLemmas::told_of_file, crate::proofs::UnopenedLemmas::unopened_file))]
 pub fn open_volume<'a, R: Files + AllocGlobal>(
     rt: &R,
     path: &'a str,
@@ -159,6 +162,7 @@ pub fn open_volume<'a, R: Files + AllocGlobal>(
 ) -> Result<WatchedVolume<R::File>, UnopenedFile<'a, R::File>>
     ensures answer { IfOk result (λ volume. IsAnswerTo (Some number) (asked_at volume.place)) }
     ensures told { IfErr result (TellsWhy path.entry (HasNoVolume number) WasNotRead) }
+    ensures fault { IfErr result (λ back. IsUnopenedVolume path.entry number back.fault) }
 {
     let LookedFile { bytes, looks } = open_looked(rt, path)?;
     let Window { source, range } = content_of(bytes, path)?;
