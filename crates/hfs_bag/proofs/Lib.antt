@@ -1,6 +1,9 @@
 pub mod Beginnings
 pub mod FolderLemmas
 mod NameLemmas
+mod EntryLemmas
+mod PlaceLemmas
+mod Reached
 pub mod RemovalLemmas
 pub mod PlacingLemmas
 pub mod ShelfPlaceLemmas

@@ -338,7 +338,7 @@ part_long c d e rest no_slash no_zero = record {
   no_zero = no_zero;
 }
 
-inside_top : (name : List ℕ) → IsPart name → IsInside name
+pub inside_top : (name : List ℕ) → IsPart name → IsInside name
 inside_top name part = record { above = []; last = name; path_is = refl; above_are = tt; last_is = part }
 
 data_part : IsPart (codes "data")

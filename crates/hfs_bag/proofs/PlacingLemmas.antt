@@ -1,19 +1,18 @@
 -- A folder that is made, placed or taken away.
 use Rattle.std.proofs.Common.{◌≡◌, ℕ, suc, ◌+◌, ◌<◌, ◌≤◌, ◌*◌, ◌/◌, List, [], ◌∷◌, Option, Some, None, Result, Ok, Err, refl, sym, ap, ◌∙◌, subst, inl, inr, arith, add-zero}
-use Rattle.std.specs.Prelude.{⊤, string_bytes}
 use Rattle.std.proofs.lemmas.Nat.{div-mul-add}
-use Rattle.hfs_bag.specs.Entries.{ShelfEntry, with_time}
+use Rattle.hfs_bag.specs.Entries.{with_time}
 use Rattle.hfs_bag.specs.ShelfPaths.{IsNewFolder, new_folder_path}
 use Rattle.hfs_bag.specs.ShelfPlaces.{others_in}
-use Rattle.hfs_bag.specs.Told.{Tells, TellsNewFolder}
+use Rattle.hfs_bag.specs.Told.{Tells}
 use Rattle.hfs_bag.specs.MadeFolders.{given_by, made_in, seconds_in}
 use Rattle.hfs_bag.specs.SystemSteps.{Asked, SystemStep, done, failed, Does, made_folder, moved, timed, closed, listed, removed_folder}
-use Rattle.hfs_bag.specs.Removals.{HasNewFolder, HasNext, HasNoNewFolder, HasOpenedFolder, HasRefused, HasSince, IsClosed, IsPlaced, IsTakenAway, IsUnwritable, RemovesIn, TellsRefused, with_refused}
+use Rattle.hfs_bag.specs.Removals.{HasNewFolder, HasNext, HasNoNewFolder, HasOpenedFolder, HasRefused, HasSince, IsClosed, IsPlaced, IsRemovedOrNot, IsTakenAway, IsUnwritable, RemovesIn, TellsRefused, with_refused}
 use Rattle.hfs_bag.specs.Left.{IsLeft, IsOrNoMemory}
 use Rattle.hfs_bag.specs.declared.shelf_fault.ShelfFault.{ShelfFault}
 use Rattle.hfs_bag.specs.declared.shelf_fault.ShelfFault.TheVariants as fault
 use Rattle.hfs_bag.proofs.FolderLemmas.{made_in-itself}
-use Rattle.hfs_bag.proofs.RemovalLemmas.{ended, since_none, since_then, since_trans, taken_behind, taken_since}
+use Rattle.hfs_bag.proofs.RemovalLemmas.{since_none, since_then, since_trans, taken_behind, taken_since}
 
 -- ---- making it
 
@@ -77,19 +76,18 @@ none_new path why old new h = inl h
 
 pub unopened : {T E : Type 0} (path folder opened name : List ℕ) (why : ShelfFault) (came : Result T E) (old made mid new : List SystemStep) → HasNewFolder path folder old made → opened ≡ folder
     → mid ≡ failed (listed opened) ∷ made → name ≡ folder → Does came (removed_folder name) mid new → IsUnwritable folder why → HasNoNewFolder path why old new
-unopened path folder opened name why came old made mid new h same at again is tells = inr (record {
+unopened {T} {E} path folder opened name why came old made mid new h same at again is tells = inr (record {
   folder = folder;
   between = made;
   is_new = h;
   told = tells;
-  away = subst (λ (steps : List SystemStep). IsTakenAway folder steps new) listed-is (ended folder made mid new came listed-is removed-is);
+  away = subst (λ (steps : List SystemStep). IsRemovedOrNot folder steps new) (at ∙ ap (λ (p : List ℕ). failed (listed p) ∷ made) same)
+      (removed_or_not came (subst (λ (p : List ℕ). Does came (removed_folder p) mid new) again is));
 })
   where
-    listed-is : mid ≡ failed (listed folder) ∷ made
-    listed-is = at ∙ ap (λ (p : List ℕ). failed (listed p) ∷ made) same
-
-    removed-is : Does came (removed_folder folder) mid new
-    removed-is = subst (λ (p : List ℕ). Does came (removed_folder p) mid new) again is
+    removed_or_not : (came : Result T E) → Does came (removed_folder folder) mid new → IsRemovedOrNot folder mid new
+    removed_or_not (Ok x) is = inl is
+    removed_or_not (Err e) is = inr is
 
 -- ---- letting go of its last file
 

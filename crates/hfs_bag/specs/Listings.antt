@@ -1,5 +1,6 @@
 -- What the names of a folder are, and a folder that was emptied by them.
-use Rattle.std.specs.Prelude.{◌≡◌, ◌==◌, ◌||◌, not, ℕ, Bool, List, [], ◌∷◌, ◌⊎◌, eqb, if◌then◌else◌, length, codes, bytes_eq}
+use Rattle.std.specs.Prelude.{◌≡◌, ◌==◌, ◌||◌, ◌&&◌, not, true, ℕ, Bool, List, [], ◌∷◌, ◌++◌, ◌⊎◌, eqb, if◌then◌else◌, length, codes, bytes_eq}
+use Rattle.std.specs.Path.{has_no_slash}
 use Rattle.std.specs.Str.{is_utf8}
 use Rattle.hfs_bag.specs.ShelfPaths.{path_within}
 use Rattle.hfs_bag.specs.SystemSteps.{SystemStep, removed_file, listed, named, done, failed}
@@ -18,9 +19,9 @@ ended_names (c ∷ text) = if eqb c 0 then [] ∷ ended_names text else with_fir
 abbrev pub names_in : List ℕ → List (List ℕ)
 names_in bytes = if is_utf8 bytes then ended_names bytes else []
 
--- it names something in a folder, and not the folder itself or the one around it
+-- it names something in a folder, and not the folder itself or the one around it, nor what lies deeper
 abbrev pub is_entry : List ℕ → Bool
-is_entry name = not (length name == 0 || bytes_eq name (codes ".") || bytes_eq name (codes ".."))
+is_entry name = not (length name == 0 || bytes_eq name (codes ".") || bytes_eq name (codes "..")) && has_no_slash name
 
 -- after these steps, what has this name in a folder is removed, if it names something in it
 abbrev pub with_removal : List ℕ → List ℕ → List SystemStep → List SystemStep
@@ -42,3 +43,17 @@ abbrev pub HasEmptied : List ℕ → List SystemStep → List SystemStep → Typ
 HasEmptied folder old new =
     (new ≡ failed (listed folder) ∷ old)
     ⊎ ((pieces : List (List ℕ)) × ((new ≡ done (named []) ∷ listing folder pieces old) ⊎ (new ≡ failed (named []) ∷ listing folder pieces old)))
+
+-- of what these names name that was removed which comes before this one, and this one names something too
+pub record HasRemovedTo (folder : List ℕ) (names : List (List ℕ)) (name : List ℕ) (old new : List SystemStep) : Type 0 where
+  pub before : List (List ℕ)
+  pub behind : List (List ℕ)
+  pub names_are : names ≡ before ++ name ∷ behind
+  pub is_one : is_entry name ≡ true
+  pub removed : new ≡ with_removals folder before old
+
+-- so it was of what the names of a folder name, as they were read
+pub record HasEmptiedTo (folder name : List ℕ) (old new : List SystemStep) : Type 0 where
+  pub piece : List ℕ
+  pub pieces : List (List ℕ)
+  pub removed : HasRemovedTo folder (names_in piece) name (done (named piece) ∷ listing folder pieces old) new

@@ -1,12 +1,12 @@
 -- What was asked of the system since some steps, where a folder is made, placed and taken away.
-use Rattle.std.specs.Prelude.{◌≡◌, ℕ, suc, zero, ◌<◌, ◌≤◌, ◌+◌, ◌*◌, List, [], ◌∷◌, ◌++◌, ◌⊎◌, ⊤, Option, Some, None, string_bytes}
+use Rattle.std.specs.Prelude.{◌≡◌, ◌≢◌, ℕ, suc, zero, ◌<◌, ◌≤◌, ◌+◌, ◌*◌, List, [], ◌∷◌, ◌++◌, ◌⊎◌, ⊤, Option, Some, None, string_bytes}
 use Rattle.hfs_bag.specs.SystemSteps.{Asked, SystemStep, made_folder, opened, wrote, timed, closed, moved, removed_file, found_folder, removed_folder, looked, listed, named, done, failed}
 use Rattle.hfs_bag.specs.Entries.{ShelfEntry}
-use Rattle.hfs_bag.specs.Listings.{HasEmptied}
+use Rattle.hfs_bag.specs.Laws.{IsInside}
+use Rattle.hfs_bag.specs.Listings.{HasEmptied, HasEmptiedTo}
 use Rattle.hfs_bag.specs.MadeFolders.{made_in}
-use Rattle.hfs_bag.specs.ShelfPaths.{new_folder_path}
+use Rattle.hfs_bag.specs.ShelfPaths.{new_folder_path, path_within}
 use Rattle.hfs_bag.specs.ShelfPlaces.{others_in}
-use Rattle.hfs_bag.specs.Told.{IsFolderOrIn}
 use Rattle.hfs_bag.specs.declared.shelf_fault.ShelfFault.{ShelfFault}
 use Rattle.hfs_bag.specs.declared.shelf_fault.ShelfFault.TheVariants as fault
 
@@ -21,7 +21,11 @@ pub record HasSince (Fact : SystemStep → Type 0) (old new : List SystemStep) :
   pub whole : new ≡ since ++ old
   pub each : AreSteps Fact since
 
--- it removes a folder or what lies in it, or changes nothing that has a path but a time
+-- the path of a folder, or one that leads down from it
+abbrev pub IsFolderOrBelow : List ℕ → List ℕ → Type 0
+IsFolderOrBelow folder path = (path ≡ folder) ⊎ ((inner : List ℕ) × IsInside inner × (path ≡ path_within folder inner))
+
+-- it removes a folder or what lies below it, or changes nothing that has a path but a time
 abbrev pub RemovesIn : List ℕ → SystemStep → Type 0
 RemovesIn folder (failed asked) = ⊤
 RemovesIn folder (done (made_folder path)) = ⊥
@@ -30,34 +34,46 @@ RemovesIn folder (done (wrote bytes)) = ⊥
 RemovesIn folder (done (timed time)) = ⊤
 RemovesIn folder (done closed) = ⊤
 RemovesIn folder (done (moved from to)) = ⊥
-RemovesIn folder (done (removed_file path)) = IsFolderOrIn folder path
+RemovesIn folder (done (removed_file path)) = IsFolderOrBelow folder path
 RemovesIn folder (done (found_folder path)) = ⊤
-RemovesIn folder (done (removed_folder path)) = IsFolderOrIn folder path
+RemovesIn folder (done (removed_folder path)) = IsFolderOrBelow folder path
 RemovesIn folder (done (looked path there)) = ⊤
 RemovesIn folder (done (listed path)) = ⊤
 RemovesIn folder (done (named bytes)) = ⊤
 
--- a file in a folder was not removed; or the folder or one in it was not, after all that its names name was removed
-abbrev pub FailsIn : List ℕ → List SystemStep → SystemStep → Type 0
-FailsIn folder before step = (path : List ℕ) × IsFolderOrIn folder path
-    × ((step ≡ failed (removed_file path)) ⊎ ((step ≡ failed (removed_folder path)) × ((old : List SystemStep) × HasEmptied path old before)))
+-- in these steps, of which the last one is first, a folder was found at this path, and not removed since
+abbrev pub IsFoundBy : List SystemStep → List ℕ → Type 0
+IsFoundBy [] path = ⊥
+IsFoundBy (step ∷ before) path = (step ≡ done (found_folder path)) ⊎ ((step ≢ done (removed_folder path)) × IsFoundBy before path)
 
--- a folder was removed, which the system does only where it is empty; or such a removal failed
-abbrev pub EndsRemoval : List ℕ → List SystemStep → SystemStep → Type 0
-EndsRemoval folder before step = (step ≡ done (removed_folder folder)) ⊎ FailsIn folder before step
+-- so it was in the new steps, behind the old ones
+pub record HasFound (path : List ℕ) (old new : List SystemStep) : Type 0 where
+  pub since : List SystemStep
+  pub whole : new ≡ since ++ old
+  pub found : IsFoundBy since path
 
--- the steps since the old ones remove in a folder, and then such a step
-pub record HasLast (Last : List SystemStep → SystemStep → Type 0) (folder : List ℕ) (old new : List SystemStep) : Type 0 where
+-- the path of a folder, or of one below it that was found since the old steps
+abbrev pub IsFolderOrFound : List ℕ → List ℕ → List SystemStep → List SystemStep → Type 0
+IsFolderOrFound folder path old new =
+    (path ≡ folder) ⊎ ((inner : List ℕ) × IsInside inner × (path ≡ path_within folder inner) × HasFound path old new)
+
+-- what a folder's names name was removed as they came, up to one whose file was not removed; or all was, and then the folder was not
+abbrev pub FailsAt : List ℕ → List SystemStep → List SystemStep → Type 0
+FailsAt folder old new =
+    ((name : List ℕ) × (emptied : List SystemStep) × HasEmptiedTo folder name old emptied × (new ≡ failed (removed_file (path_within folder name)) ∷ emptied))
+    ⊎ ((emptied : List SystemStep) × HasEmptied folder old emptied × (new ≡ failed (removed_folder folder) ∷ emptied))
+
+-- a folder was removed, which the system does only where it is empty; or so it failed at that folder, or at one that was found below it
+abbrev pub EndsRemoval : List ℕ → List SystemStep → List SystemStep → List SystemStep → Type 0
+EndsRemoval folder old before new =
+    (new ≡ done (removed_folder folder) ∷ before) ⊎ ((place : List ℕ) × IsFolderOrFound folder place old before × FailsAt place before new)
+
+-- a folder was taken away: since the old steps nothing was changed but what is removed below it, and it was removed at last, as far as the
+-- system gave the names of what lay there and removed that
+pub record IsTakenAway (folder : List ℕ) (old new : List SystemStep) : Type 0 where
   pub before : List SystemStep
-  pub last : SystemStep
-  pub ends : new ≡ last ∷ before
   pub removes : HasSince (RemovesIn folder) old before
-  pub is_last : Last before last
-
--- a folder was taken away: since the old steps nothing was changed but what is removed in it, and it was removed at last, as far as the
--- system gave the names of what lay in it and removed that
-abbrev pub IsTakenAway : List ℕ → List SystemStep → List SystemStep → Type 0
-IsTakenAway folder old new = HasLast (EndsRemoval folder) folder old new
+  pub ends : EndsRemoval folder old before new
 
 -- the file that was opened last was closed, and got this time before, in seconds since the beginning of 1970, where one is given and
 -- the system set it
@@ -103,18 +119,22 @@ pub record HasRefused (path : List ℕ) (why : ShelfFault) (old new : List Syste
   pub told : TellsRefused path tried why
   pub steps : new ≡ with_refused path tried old
 
+-- a folder was removed, or that failed
+abbrev pub IsRemovedOrNot : List ℕ → List SystemStep → List SystemStep → Type 0
+IsRemovedOrNot folder old new = (new ≡ done (removed_folder folder) ∷ old) ⊎ (new ≡ failed (removed_folder folder) ∷ old)
+
 -- this path can't be written
 abbrev pub IsUnwritable : List ℕ → ShelfFault → Type 0
 IsUnwritable path (fault.CannotWrite told) = string_bytes told ≡ path
 IsUnwritable path fault.NoMemory = ⊥
 
--- a folder was made and not opened, and it is taken away
+-- a folder was made and not opened, and it was removed, or its removal failed
 pub record HasUnopened (path : List ℕ) (why : ShelfFault) (old new : List SystemStep) : Type 0 where
   pub folder : List ℕ
   pub between : List SystemStep
   pub is_new : HasNewFolder path folder old between
   pub told : IsUnwritable folder why
-  pub away : IsTakenAway folder (failed (listed folder) ∷ between) new
+  pub away : IsRemovedOrNot folder (failed (listed folder) ∷ between) new
 
 -- no folder was made, or the one that was made is taken away
 abbrev pub HasNoNewFolder : List ℕ → ShelfFault → List SystemStep → List SystemStep → Type 0

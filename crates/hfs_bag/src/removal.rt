@@ -1,9 +1,8 @@
 //! Removing a folder with everything in it.
-ghost use Rattle.std.specs.Prelude.{◌≡◌, ◌<◌, ◌∷◌, [], length, IfOk, IfSome, MatchOption, MatchResult, is_some, string_bytes, true};
-ghost use Rattle.hfs_bag.specs.Listings.{HasEmptied, ended_names, is_entry, names_in, with_removal, with_removals};
-ghost use Rattle.hfs_bag.specs.Told.{IsFolderOrIn};
+ghost use Rattle.std.specs.Prelude.{◌≡◌, ◌<◌, ◌∷◌, [], length, IfOk, IfSome, MatchOption, MatchResult, string_bytes};
+ghost use Rattle.hfs_bag.specs.Listings.{HasEmptied, HasEmptiedTo, HasRemovedTo, ended_names, is_entry, names_in, with_removals};
 ghost use Rattle.hfs_bag.specs.Removals.{HasSince, IsTakenAway, RemovesIn};
-ghost use Rattle.hfs_bag.specs.Tries.{AnswersTried, HasNextPlace, is_stopped};
+ghost use Rattle.hfs_bag.specs.Tries.{AnswersTried, HasNextPlace, IsAround, is_stopped, path_below, place_at, some_of};
 
 use crate::paths::path_within;
 use crate::system::{FileSystem, Removal};
@@ -57,8 +56,8 @@ fn remove_next<Y: FileSystem>(
     inner: &str,
 ) -> Result<Option<String>, AllocError>
     ensures { MatchResult result
-        (HasNextPlace folder.now (Y.did system.old) (Y.did system.new))
-        (λ _. HasSince (RemovesIn folder.now) (Y.did system.old) (Y.did system.new)) }
+        (HasNextPlace folder.now inner.now (Y.did system.old) (Y.did system.new))
+        (λ _. HasSince (RemovesIn (place_at folder.now inner.now)) (Y.did system.old) (Y.did system.new)) }
 {
     let place = match place_in(alloc, folder, inner) {
         Ok(place) => place,
@@ -82,7 +81,7 @@ fn remove_next<Y: FileSystem>(
 
 /// A path where to go on.
 fn some(path: Result<String, AllocError>) -> Result<Option<String>, AllocError>
-    ensures { IfOk result (λ next. is_some next ≡ true) }
+    ensures { result ≡ some_of path }
 {
     match path {
         Ok(path) => Ok(Some(path)),
@@ -92,8 +91,7 @@ fn some(path: Result<String, AllocError>) -> Result<Option<String>, AllocError>
 
 /// The path of what is at a path in a folder; the inner path is empty for the folder itself.
 fn place_in(alloc: Global, folder: &str, inner: &str) -> Result<String, AllocError>
-    ensures within { IfOk result (λ place. IsFolderOrIn folder.now (string_bytes place)) }
-    ensures whole { inner.now ≡ [] → IfOk result (λ place. string_bytes place ≡ folder.now) }
+    ensures { IfOk result (λ place. string_bytes place ≡ place_at folder.now inner.now) }
 {
     if inner.is_empty() {
         String::from_str(alloc, folder)
@@ -103,7 +101,9 @@ fn place_in(alloc: Global, folder: &str, inner: &str) -> Result<String, AllocErr
 }
 
 /// The path, within a folder, of the entry with this name in what is at a path in it.
-fn inner_path(alloc: Global, inner: &str, name: String) -> Result<String, AllocError> {
+fn inner_path(alloc: Global, inner: &str, name: String) -> Result<String, AllocError>
+    ensures { IfOk result (λ path. string_bytes path ≡ path_below inner.now (string_bytes name)) }
+{
     if inner.is_empty() {
         Ok(name)
     } else {
@@ -112,7 +112,9 @@ fn inner_path(alloc: Global, inner: &str, name: String) -> Result<String, AllocE
 }
 
 /// The path of the folder that holds what is at a path in a folder.
-fn folder_of(alloc: Global, inner: &str) -> Result<String, AllocError> {
+fn folder_of(alloc: Global, inner: &str) -> Result<String, AllocError>
+    ensures { IfOk result (λ around. IsAround inner.now (string_bytes around)) }
+{
     match inner.rsplit_once('/') {
         Some((above, _name)) => String::from_str(alloc, above),
         None => Ok(String::new(alloc)),
@@ -139,6 +141,7 @@ fn remove_to_folder<Y: FileSystem>(
 ) -> Result<Tried, AllocError>
     ensures { AnswersTried result folder.now
         (HasEmptied folder.now (Y.did system.old) (Y.did system.new))
+        (λ name. HasEmptiedTo folder.now name (Y.did system.old))
         (Y.did system.old) (Y.did system.new) }
 {
     let Ok(()) = system.open_folder(folder) else {
@@ -180,6 +183,7 @@ fn remove_names<Y: FileSystem>(
 ) -> Result<Tried, AllocError>
     ensures { AnswersTried result folder.now
         (Y.did system.new ≡ with_removals folder.now (ended_names names.now) (Y.did system.old))
+        (λ name. HasRemovedTo folder.now (ended_names names.now) name (Y.did system.old))
         (Y.did system.old) (Y.did system.new) }
 {
     let mut rest = names;
@@ -205,11 +209,12 @@ fn is_stopped(tried: &Result<Tried, AllocError>) -> bool
     }
 }
 
-/// Whether this names something in a folder: it is neither empty nor the folder's own entry for itself or its parent.
+/// Whether this names something in a folder: it is neither empty nor the folder's own entry for itself or its parent. No system
+/// gives a name with a slash, but as a path it might lead out of the folder.
 fn is_entry(name: &str) -> bool
     ensures { result ≡ is_entry name.now }
 {
-    !(name.is_empty() || name == "." || name == "..")
+    !(name.is_empty() || name == "." || name == ".." || name.contains('/'))
 }
 
 /// Removes the entry of a folder with this name, if it names one, unless it is a folder.
@@ -221,7 +226,8 @@ fn remove_name<Y: FileSystem>(
     name: &str,
 ) -> Result<Tried, AllocError>
     ensures { AnswersTried result folder.now
-        (Y.did system.new ≡ with_removal folder.now name.now (Y.did system.old))
+        (Y.did system.new ≡ with_removals folder.now (name.now ∷ []) (Y.did system.old))
+        (λ entry. HasRemovedTo folder.now (name.now ∷ []) entry (Y.did system.old))
         (Y.did system.old) (Y.did system.new) }
 {
     if !is_entry(name) {

@@ -1,5 +1,5 @@
 -- The folder that was made is empty, or it is taken away.
-use Rattle.std.proofs.Common.{◌≡◌, refl, Global}
+use Rattle.std.proofs.Common.{refl, Global}
 use Rattle.std.specs.Prelude.{string_bytes}
 use Rattle.hfs_bag.proofs.PlacingLemmas.{opened_empty, opened_now, unopened}
 use Rattle.hfs_bag.proofs.files.FileShelf.create.Goals as goal
