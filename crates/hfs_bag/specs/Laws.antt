@@ -84,7 +84,7 @@ HasDouble kind.DoubleAlone = ⊤
 abbrev pub DifferInPath : BagItem → BagItem → Type 0
 DifferInPath a b = folded (a.above ++ a.name) ≢ folded (b.above ++ b.name)
 
--- two items have other paths, also without regard to case, but for a folder alone and an AppleDouble file alone, which may be of one item
+-- two items have other paths, also without regard to the case of ASCII letters, but for a folder alone and an AppleDouble file alone, which may be of one item
 pub record AreApart (a b : BagItem) : Type 0 where
   pub own : HasOwn a.kind → HasOwn b.kind → DifferInPath a b
   pub doubles : HasDouble a.kind → HasDouble b.kind → DifferInPath a b
@@ -103,7 +103,7 @@ abbrev pub AreInside : List ShelfEntry → Type 0
 AreInside [] = ⊤
 AreInside (entry ∷ rest) = IsInside (entry_path entry) × AreInside rest
 
--- an entry's path is none of these, also without regard to case
+-- an entry's path is none of these, also without regard to the case of ASCII letters
 abbrev pub IsNoneOf : List ℕ → List ShelfEntry → Type 0
 IsNoneOf path [] = ⊤
 IsNoneOf path (entry ∷ rest) = (folded path ≢ folded (entry_path entry)) × IsNoneOf path rest
@@ -112,6 +112,7 @@ abbrev pub AllDiffer : List ShelfEntry → Type 0
 AllDiffer [] = ⊤
 AllDiffer (entry ∷ rest) = IsNoneOf (entry_path entry) rest × AllDiffer rest
 
--- the law of paths: where the items have plain names and paths of their own, no path leads out of the bag, and all differ, those of the tag files too, also without regard to case
+-- the law of paths: where the items have plain names and paths of their own, no path leads out of the bag, and all differ, those of the tag files too, also
+-- without regard to the case of ASCII letters
 abbrev pub BagPathsAreLawful : Type 0
 BagPathsAreLawful = (items : List BagItem) (tables : BagTables) (facts : BagFacts) → ArePlaced items → AreInside (bag_of items tables facts) × AllDiffer (bag_of items tables facts)

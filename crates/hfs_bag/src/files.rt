@@ -7,7 +7,7 @@ ghost use Rattle.hfs_bag.specs.Told.{Tells, TellsNewFolder, TellsWithin};
 ghost use Rattle.hfs_bag.specs.Entries.{IsBeginning, with_folder, with_file, with_piece};
 ghost use Rattle.hfs_bag.specs.MadeFolders.{given_by};
 ghost use Rattle.hfs_bag.specs.Removals.{HasNewFolder, HasNext, HasNoNewFolder, HasOpenedFolder, HasRefused, HasSince, IsClosed, IsPlaced, IsTakenAway, RemovesIn};
-ghost use Rattle.hfs_bag.specs.SystemSteps.{SystemStep, done, looked, made_folder, makes_file, moved, opened};
+ghost use Rattle.hfs_bag.specs.SystemSteps.{SystemStep, done, looked, made_folder, makes_file, moved, opened, wrote};
 ghost use Rattle.hfs_bag.specs.Left.{IsLeft, IsOrNoMemory};
 
 use crate::paths::{new_folder_path, path_within};
@@ -333,6 +333,7 @@ impl<Y: FileSystem> Shelf for FileShelf<Y> {
             ≡ with_piece (given_by (string_bytes self.old.folder) self.old.modified (Y.did self.old.system)) piece.now) }
         ensures part { OnErr result (IsBeginning (given_by (string_bytes self.new.folder) self.new.modified (Y.did self.new.system))
             (with_piece (given_by (string_bytes self.old.folder) self.old.modified (Y.did self.old.system)) piece.now)) }
+        ensures steps { OnOk result (Y.did self.new.system ≡ done (wrote piece.now) ∷ Y.did self.old.system) }
         ensures time { self.new.modified ≡ self.old.modified }
         ensures fault { IfErr result (TellsWithin (string_bytes self.old.folder)) }
         ensures place { shelf_place (string_bytes self.new.folder) (Y.did self.new.system)

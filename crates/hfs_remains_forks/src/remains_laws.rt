@@ -37,7 +37,7 @@ pub fn sound_are_things()
     ensures { SoundAreThings }
 {}
 
-/// On a sound volume, no two items of a folder have the same name, even ignoring the case of letters.
+/// On a sound volume, no two items of a folder have the same name, even ignoring the case of ASCII letters.
 pub fn sound_names_are_own()
     ensures { SoundNamesAreOwn }
 {}

@@ -1,4 +1,5 @@
--- Entries: how a thing is called in its folder. The things of one folder have entries that differ, also without regard to case.
+-- Entries: how a thing is called in its folder. The things of one folder have entries that differ, also without regard to the case of ASCII
+-- letters.
 use Rattle.std.specs.Prelude.{◌≡◌, ℕ, Bool, if◌then◌else◌, List, [], ◌∷◌, ◌++◌, map, length, codes}
 use Rattle.std.specs.Char.{to_ascii_lowercase}
 use Rattle.std.specs.Fmt.{decimal}
@@ -22,7 +23,8 @@ has_entry_row things row = list_any (λ thing. bytes_eq (entry_row thing) row) t
 unfoldable pub suffix : ℕ → Thing → List ℕ
 suffix place thing = if thing.named then codes "=t" ++ decimal (unwrap_or thing.folder 0) else codes "=r" ++ decimal place
 
--- the entry of a thing after these: its host name, and where one of them has that in the same folder, except for case, the suffix after it
+-- the entry of a thing after these: its host name, and where one of them has that in the same folder, except for the case of
+-- ASCII letters, the suffix after it
 abbrev pub entry_behind : List Thing → Thing → List ℕ
 entry_behind before thing = if has_entry_row before (entry_row thing) then host_name thing.name ++ suffix (length before) thing else host_name thing.name
 

@@ -38,7 +38,7 @@ PathsAreShort = (things : List Thing) → AreThings things → ArePathsShort thi
 abbrev pub AreItems : List Thing → Type 0
 AreItems items = (i : ℕ) → i < length items → (thing_at items i).named ≡ false
 
--- two things with one path below the payload, in whatever case its letters are, are one thing
+-- two things with one path below the payload, in whatever case its ASCII letters are, are one thing
 abbrev pub HaveOwnPlaces : List Thing → Type 0
 HaveOwnPlaces things = (i j : ℕ) → i < length things → j < length things → folded (payload_path things i) ≡ folded (payload_path things j) → i ≡ j
 
@@ -82,7 +82,7 @@ EndsThere (byte ∷ rest) = byte ≡ 47
 abbrev pub IsOver : List Thing → List ℕ → Type 0
 IsOver things text = (i : ℕ) × (i < length things) × (below : List ℕ) × (payload_path things i ≡ text ++ below) × EndsThere below
 
--- what things lie in has one path, in whatever case its letters are
+-- what things lie in has one path, in whatever case its ASCII letters are
 abbrev pub HaveOwnFolders : List Thing → Type 0
 HaveOwnFolders things = (a b : List ℕ) → IsOver things a → IsOver things b → folded a ≡ folded b → a ≡ b
 
