@@ -1,12 +1,14 @@
 -- What lies in a folder, when one thing more was made in it.
-use Rattle.std.proofs.Common.{◌≡◌, ℕ, Bool, true, false, List, [], ◌∷◌, ◌++◌, Option, Some, None, eqb, refl, sym, ap, ◌∙◌, subst}
-use Rattle.std.specs.Prelude.{if◌then◌else◌, option_map, unwrap_or, ⊤}
+use Rattle.std.proofs.Common.{◌≡◌, ℕ, Bool, true, List, [], ◌∷◌, ◌++◌, Option, Some, None, refl, ap, ◌∙◌, inl, inr}
+use Rattle.std.specs.Prelude.{if◌then◌else◌, option_map, unwrap_or}
 use Rattle.std.proofs.lemmas.Bool.{eq-eqb}
 use Rattle.hfs_bag.specs.Entries.{ShelfEntry, with_folder, with_file, with_piece, with_time}
 use Rattle.hfs_bag.proofs.Beginnings.{time_last, time_piece}
 use Rattle.hfs_bag.specs.ShelfPaths.{path_within}
 use Rattle.hfs_bag.specs.MadeFolders.{given_by, path_in, made_in}
-use Rattle.hfs_bag.specs.SystemSteps.{SystemStep, done, failed, made_folder, opened, wrote}
+use Rattle.std.specs.declared.io.ErrorKind.{ErrorKind}
+use Rattle.hfs_bag.specs.FolderRefusals.{IsFolderRefused}
+use Rattle.hfs_bag.specs.SystemSteps.{SystemStep, done, failed, looked, made_folder, opened, wrote}
 
 path_in-next : (c : ℕ) (folder path : List ℕ) → path_in (c ∷ folder) (c ∷ path) ≡ path_in folder path
 path_in-next c folder path = ap (λ t. if t then path_in folder path else None) (eq-eqb c c refl)
@@ -74,8 +76,13 @@ none_opened folder path time new_one old new is = ap (given_by folder time) is �
     same None = refl
     same (Some seconds) = refl
 
-pub none_made : (folder path : List ℕ) (time : Option ℕ) (old new : List SystemStep) → new ≡ failed (made_folder path) ∷ old → given_by folder time new ≡ given_by folder time old
-none_made folder path time old new is = ap (given_by folder time) is ∙ same time
+pub none_made : (folder path : List ℕ) (time : Option ℕ) (kind : ErrorKind) (old new : List SystemStep) → IsFolderRefused kind path old new → given_by folder time new ≡ given_by folder time old
+none_made folder path time kind old new (inl is) = ap (given_by folder time) is.1 ∙ same time
+  where
+    same : (t : Option ℕ) → given_by folder t (done (looked path true) ∷ old) ≡ given_by folder t old
+    same None = refl
+    same (Some seconds) = refl
+none_made folder path time kind old new (inr is) = ap (given_by folder time) is.1 ∙ same time
   where
     same : (t : Option ℕ) → given_by folder t (failed (made_folder path) ∷ old) ≡ given_by folder t old
     same None = refl

@@ -1,13 +1,17 @@
 -- A folder that is made, placed or taken away.
-use Rattle.std.proofs.Common.{◌≡◌, ℕ, suc, ◌+◌, ◌<◌, ◌≤◌, ◌*◌, ◌/◌, List, [], ◌∷◌, Option, Some, None, Result, Ok, Err, refl, sym, ap, ◌∙◌, subst, inl, inr, arith, add-zero}
+use Rattle.std.proofs.Common.{◌≡◌, ℕ, suc, ◌+◌, ◌<◌, ◌*◌, ◌/◌, List, [], ◌∷◌, Option, Some, None, Result, Ok, Err, sym, ap, ◌∙◌, subst, inl, inr, arith, add-zero, Global}
+use Rattle.std.specs.Prelude.{◌≢◌, true, String, string_bytes}
 use Rattle.std.proofs.lemmas.Nat.{div-mul-add}
+use Rattle.std.specs.declared.io.ErrorKind.{ErrorKind}
+use Rattle.std.specs.declared.io.ErrorKind.TheVariants.{AlreadyExists}
+use Rattle.hfs_bag.specs.FolderRefusals.{IsFolderRefused}
 use Rattle.hfs_bag.specs.Entries.{with_time}
 use Rattle.hfs_bag.specs.ShelfPaths.{IsNewFolder, new_folder_path}
 use Rattle.hfs_bag.specs.ShelfPlaces.{others_in}
 use Rattle.hfs_bag.specs.Told.{Tells}
 use Rattle.hfs_bag.specs.MadeFolders.{given_by, made_in, seconds_in}
-use Rattle.hfs_bag.specs.SystemSteps.{Asked, SystemStep, done, failed, Does, made_folder, moved, timed, closed, listed, removed_folder}
-use Rattle.hfs_bag.specs.Removals.{HasNewFolder, HasNext, HasNoNewFolder, HasOpenedFolder, HasRefused, HasSince, IsClosed, IsPlaced, IsRemovedOrNot, IsTakenAway, IsUnwritable, RemovesIn, TellsRefused, with_refused}
+use Rattle.hfs_bag.specs.SystemSteps.{Asked, SystemStep, done, failed, Does, made_folder, looked, moved, timed, closed, listed, removed_folder}
+use Rattle.hfs_bag.specs.Removals.{HasNewFolder, HasNext, HasNoNewFolder, HasOpenedFolder, HasRefused, HasSince, IsClosed, IsPlaced, IsRemovedOrNot, IsTakenAway, IsUnwritable, RemovesIn, with_taken}
 use Rattle.hfs_bag.specs.Left.{IsLeft, IsOrNoMemory}
 use Rattle.hfs_bag.specs.declared.shelf_fault.ShelfFault.{ShelfFault}
 use Rattle.hfs_bag.specs.declared.shelf_fault.ShelfFault.TheVariants as fault
@@ -19,14 +23,15 @@ use Rattle.hfs_bag.proofs.RemovalLemmas.{since_none, since_then, since_trans, ta
 next_number : (number : ℕ) → suc number ≡ number + 1
 next_number number = omega arith
 
--- one name more is refused
-pub refused_more : (path name : List ℕ) (number : ℕ) (old mid new : List SystemStep) → mid ≡ with_refused path number old → name ≡ new_folder_path path number → new ≡ failed (made_folder name) ∷ mid
-    → new ≡ with_refused path (number + 1) old
-refused_more path name number old mid new before at is =
-    is ∙ ap (λ (p : List ℕ). failed (made_folder p) ∷ mid) at ∙ ap (λ (steps : List SystemStep). failed (made_folder (new_folder_path path number)) ∷ steps) before
-    ∙ ap (λ (k : ℕ). with_refused path k old) (next_number number)
+-- one name more is taken
+pub taken_more : (path name : List ℕ) (number : ℕ) (kind : ErrorKind) (old mid new : List SystemStep) → mid ≡ with_taken path number old → name ≡ new_folder_path path number
+    → IsFolderRefused kind name mid new → kind ≡ AlreadyExists → new ≡ with_taken path (number + 1) old
+taken_more path name number kind old mid new before at (inl is) taken =
+    is.1 ∙ ap (λ (p : List ℕ). done (looked p true) ∷ mid) at ∙ ap (λ (steps : List SystemStep). done (looked (new_folder_path path number) true) ∷ steps) before
+    ∙ ap (λ (k : ℕ). with_taken path k old) (next_number number)
+taken_more path name number kind old mid new before at (inr is) taken = absurd (is.0 taken)
 
-pub name_free : (path folder name : List ℕ) (number : ℕ) (old tried new : List SystemStep) → number < 100 → folder ≡ new_folder_path path number → name ≡ folder → tried ≡ with_refused path number old
+pub name_free : (path folder name : List ℕ) (number : ℕ) (old tried new : List SystemStep) → number < 100 → folder ≡ new_folder_path path number → name ≡ folder → tried ≡ with_taken path number old
     → new ≡ done (made_folder name) ∷ tried → HasNewFolder path folder old new
 name_free path folder name number old tried new below at same before is = record {
   number = number;
@@ -36,28 +41,23 @@ name_free path folder name number old tried new below at same before is = record
 }
 
 -- it ends at a name that the system refuses for another reason, where memory is refused, or behind the last name
-pub refused_last : (path name : List ℕ) (number : ℕ) (why : ShelfFault) (old mid new : List SystemStep) → number < 100 → mid ≡ with_refused path number old → name ≡ new_folder_path path number
-    → new ≡ failed (made_folder name) ∷ mid → IsUnwritable name why → HasRefused path why old new
-refused_last path name number why old mid new below before at is tells = record {
-  tried = number + 1;
-  most = omega (arith, below);
-  told = last_told why tells;
-  steps = refused_more path name number old mid new before at is;
-}
-  where
-    last_told : (why : ShelfFault) → IsUnwritable name why → TellsRefused path (number + 1) why
-    last_told (fault.CannotWrite told) same = inr (number, refl, same ∙ at)
-    last_told fault.NoMemory never = absurd never
+pub refused_last : (path name : List ℕ) (number : ℕ) (kind : ErrorKind) (told : String Global) (old mid new : List SystemStep) → number < 100 → mid ≡ with_taken path number old
+    → name ≡ new_folder_path path number → IsFolderRefused kind name mid new → kind ≢ AlreadyExists → string_bytes told ≡ name → HasRefused path (fault.CannotWrite told) old new
+refused_last path name number kind told old mid new below before at (inl is) other same = absurd (other is.0)
+refused_last path name number kind told old mid new below before at (inr is) other same = inr (
+  number,
+  below,
+  (
+    same ∙ at,
+    is.1 ∙ ap (λ (p : List ℕ). failed (made_folder p) ∷ mid) at ∙ ap (λ (steps : List SystemStep). failed (made_folder (new_folder_path path number)) ∷ steps) before,
+  ),
+)
 
-pub refused_memory : (path : List ℕ) (number : ℕ) (old new : List SystemStep) → number ≤ 100 → new ≡ with_refused path number old → HasRefused path fault.NoMemory old new
-refused_memory path number old new most is = record { tried = number; most = most; told = tt; steps = is }
+pub refused_memory : (path : List ℕ) (number : ℕ) (old new : List SystemStep) → number < 100 → new ≡ with_taken path number old → HasRefused path fault.NoMemory old new
+refused_memory path number old new below is = inr (number, below, is)
 
-pub all_refused : (path : List ℕ) (why : ShelfFault) (old new : List SystemStep) → new ≡ with_refused path 100 old → Tells path why → HasRefused path why old new
-all_refused path why old new is tells = record { tried = 100; most = omega arith; told = all_told why tells; steps = is }
-  where
-    all_told : (why : ShelfFault) → Tells path why → TellsRefused path 100 why
-    all_told (fault.CannotWrite told) same = inl (refl, same)
-    all_told fault.NoMemory any = tt
+pub all_refused : (path : List ℕ) (why : ShelfFault) (old new : List SystemStep) → new ≡ with_taken path 100 old → Tells path why → HasRefused path why old new
+all_refused path why old new is tells = inl (tells, is)
 
 -- ---- opening it
 
@@ -69,7 +69,7 @@ new_beside path folder old new h = (h.number, h.below, h.name)
 
 pub opened_empty : (path folder : List ℕ) (old new : List SystemStep) → HasOpenedFolder path folder old new → made_in folder new ≡ []
 opened_empty path folder old new h =
-    ap (made_in folder) h.opens ∙ ap (made_in folder) h.is_new.made ∙ made_in-itself folder (with_refused path h.is_new.number old)
+    ap (made_in folder) h.opens ∙ ap (made_in folder) h.is_new.made ∙ made_in-itself folder (with_taken path h.is_new.number old)
 
 pub none_new : (path : List ℕ) (why : ShelfFault) (old new : List SystemStep) → HasRefused path why old new → HasNoNewFolder path why old new
 none_new path why old new h = inl h
@@ -144,4 +144,4 @@ pub told_still : (path : List ℕ) (was is : ShelfFault) → Tells path was → 
 told_still path was is tells (inl same) = subst (Tells path) (sym same) tells
 told_still path was is tells (inr same) = subst (Tells path) (sym same) tt
 
-pub ruleset placing = (refused_more, name_free, refused_last, refused_memory, all_refused, opened_now, new_beside, opened_empty, none_new, unopened, since_closed, closed_same, closed_others_now, next_now, placed_now, failed_in, left_behind, left_taken, told_still)
+pub ruleset placing = (name_free, refused_memory, all_refused, opened_now, new_beside, opened_empty, none_new, unopened, since_closed, closed_same, closed_others_now, next_now, placed_now, failed_in, left_behind, left_taken, told_still)

@@ -9,6 +9,7 @@ pub mod Listings
 pub mod ShelfPlaces
 pub mod Removals
 pub mod FileRemovals
+pub mod FolderRefusals
 pub mod Tries
 pub mod Left
 pub mod Pieces

@@ -1,5 +1,5 @@
 -- What was asked of the system since some steps, where a folder is made, placed and taken away.
-use Rattle.std.specs.Prelude.{◌≡◌, ◌≢◌, ℕ, suc, zero, ◌<◌, ◌≤◌, ◌+◌, ◌*◌, List, [], ◌∷◌, ◌++◌, ◌⊎◌, ⊤, Option, Some, None, string_bytes}
+use Rattle.std.specs.Prelude.{◌≡◌, ◌≢◌, true, ℕ, suc, zero, ◌<◌, ◌*◌, List, [], ◌∷◌, ◌++◌, ◌⊎◌, ⊤, Option, Some, None, string_bytes}
 use Rattle.hfs_bag.specs.SystemSteps.{Asked, SystemStep, made_folder, opened, wrote, timed, closed, moved, removed_file, found_folder, removed_folder, looked, listed, named, done, failed}
 use Rattle.hfs_bag.specs.Entries.{ShelfEntry}
 use Rattle.hfs_bag.specs.Laws.{IsInside}
@@ -7,6 +7,7 @@ use Rattle.hfs_bag.specs.Listings.{HasEmptied, HasEmptiedTo}
 use Rattle.hfs_bag.specs.MadeFolders.{made_in}
 use Rattle.hfs_bag.specs.ShelfPaths.{new_folder_path, path_within}
 use Rattle.hfs_bag.specs.ShelfPlaces.{others_in}
+use Rattle.hfs_bag.specs.Told.{Tells}
 use Rattle.hfs_bag.specs.declared.shelf_fault.ShelfFault.{ShelfFault}
 use Rattle.hfs_bag.specs.declared.shelf_fault.ShelfFault.TheVariants as fault
 
@@ -88,17 +89,17 @@ pub record HasNext (asked : Asked) (time : Option ℕ) (old new : List SystemSte
   pub closes : IsClosed time old between
   pub next : new ≡ done asked ∷ between
 
--- after these steps, a folder was not made under the first so many of the names that it may have
-abbrev pub with_refused : List ℕ → ℕ → List SystemStep → List SystemStep
-with_refused path zero steps = steps
-with_refused path (suc number) steps = failed (made_folder (new_folder_path path number)) ∷ with_refused path number steps
+-- after these steps, something had each of the first so many names that the folder may have
+abbrev pub with_taken : List ℕ → ℕ → List SystemStep → List SystemStep
+with_taken path zero steps = steps
+with_taken path (suc number) steps = done (looked (new_folder_path path number) true) ∷ with_taken path number steps
 
--- a folder was made under the first of its hundred names for which the system did it
+-- a folder was made under the first of its hundred names that was free
 pub record HasNewFolder (path folder : List ℕ) (old new : List SystemStep) : Type 0 where
   pub number : ℕ
   pub below : number < 100
   pub name : folder ≡ new_folder_path path number
-  pub made : new ≡ done (made_folder folder) ∷ with_refused path number old
+  pub made : new ≡ done (made_folder folder) ∷ with_taken path number old
 
 -- so it was, and then opened
 pub record HasOpenedFolder (path folder : List ℕ) (old new : List SystemStep) : Type 0 where
@@ -106,18 +107,16 @@ pub record HasOpenedFolder (path folder : List ℕ) (old new : List SystemStep) 
   pub is_new : HasNewFolder path folder old between
   pub opens : new ≡ done (listed folder) ∷ between
 
--- the fault names the path whose hundred names were refused, or the name that was refused last
-abbrev pub TellsRefused : List ℕ → ℕ → ShelfFault → Type 0
-TellsRefused path tried (fault.CannotWrite told) =
-    ((tried ≡ 100) × (string_bytes told ≡ path)) ⊎ ((number : ℕ) × (tried ≡ number + 1) × (string_bytes told ≡ new_folder_path path number))
-TellsRefused path tried fault.NoMemory = ⊤
+-- the folder was refused under the name of this number, which the fault names; or memory was, before that name was tried
+abbrev pub IsRefusedAt : List ℕ → ℕ → ShelfFault → List SystemStep → List SystemStep → Type 0
+IsRefusedAt path number (fault.CannotWrite told) old new =
+    (string_bytes told ≡ new_folder_path path number) × (new ≡ failed (made_folder (new_folder_path path number)) ∷ old)
+IsRefusedAt path number fault.NoMemory old new = new ≡ old
 
--- no folder was made under the first so many of its names, and no other was tried
-pub record HasRefused (path : List ℕ) (why : ShelfFault) (old new : List SystemStep) : Type 0 where
-  pub tried : ℕ
-  pub most : tried ≤ 100
-  pub told : TellsRefused path tried why
-  pub steps : new ≡ with_refused path tried old
+-- no folder was made: all of its hundred names are taken, and the fault is that of the path; or it was refused at the first that isn't
+abbrev pub HasRefused : List ℕ → ShelfFault → List SystemStep → List SystemStep → Type 0
+HasRefused path why old new =
+    (Tells path why × (new ≡ with_taken path 100 old)) ⊎ ((number : ℕ) × (number < 100) × IsRefusedAt path number why (with_taken path number old) new)
 
 -- a folder was removed, or that failed
 abbrev pub IsRemovedOrNot : List ℕ → List SystemStep → List SystemStep → Type 0

@@ -5,8 +5,9 @@ use Rattle.std.specs.declared.fs.options.OpenOptions.{OpenOptions}
 
 -- that a folder is made where nothing is; a file is opened, or, if so, made where nothing is, to be written; bytes are laid after those of
 -- the file that was opened last, that one gets a time, in nanoseconds since the beginning of 1970, and is let go of; what has the first path
--- gets the second; what is no folder is removed, or, for there is one, it stays; an empty folder is removed; whether anything has a path; a
--- folder is opened for its names; these are read of the names of the folder that was opened last, each ended by a zero byte, none at their end
+-- gets the second; what is no folder is removed, or, for there is one, it stays; an empty folder is removed; whether anything has a path, and
+-- that it has, for a folder is to be made there; a folder is opened for its names; these are read of the names of the folder that was opened
+-- last, each ended by a zero byte, none at their end
 pub data Asked : Type 0 where
   made_folder : List ℕ → Asked
   opened : Bool → List ℕ → Asked

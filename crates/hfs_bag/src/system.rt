@@ -1,8 +1,10 @@
 //! What a shelf of files asks of the system.
 ghost use Rattle.std.specs.Prelude.{◌≡◌, ◌<◌, ◌≤◌, ◌∷◌, [], List, length, take, IfOk, MatchResult};
+ghost use Rattle.std.specs.IoError.{error_kind};
 ghost use Rattle.std.specs.Time.{system_time_nanos};
 ghost use Rattle.hfs_bag.specs.SystemSteps.{Does, SystemStep, made_folder, opened, wrote, timed, closed, moved, removed_folder, looked, listed, named, done, failed, makes_file};
 ghost use Rattle.hfs_bag.specs.FileRemovals.{removal_of};
+ghost use Rattle.hfs_bag.specs.FolderRefusals.{IsFolderRefused};
 ghost use Rattle.hfs_bag.specs.declared.system.Removal.TheVariants as found;
 
 use std::fs::OpenOptions;
@@ -22,9 +24,11 @@ pub enum Removal {
 pub trait FileSystem {
     ghost did: { Self → List SystemStep };
 
-    /// Makes a folder, if nothing has its path.
+    /// Makes a folder, if nothing has its path. If something has, the error's kind says so, and the list notes only that.
     fn make_folder(&mut self, path: &str) -> io::Result<()>
-        ensures { Does result (made_folder path.now) (did self.old) (did self.new) };
+        ensures { MatchResult result
+            (λ _. did self.new ≡ done (made_folder path.now) ∷ did self.old)
+            (λ error. IsFolderRefused (error_kind error) path.now (did self.old) (did self.new)) };
 
     /// Opens a file, and closes the one that was opened last.
     fn open_file(&mut self, how: &OpenOptions, path: &str) -> io::Result<()>

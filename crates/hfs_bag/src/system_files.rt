@@ -55,9 +55,20 @@ impl<R: Files> FileSystem for SystemFiles<'_, R> {
     ghost did = { λ system. system.log.steps };
 
     fn make_folder(&mut self, path: &str) -> io::Result<()> {
-        let came = fs::create_dir(self.rt, path);
-        self.log = noted(&self.log, &Step::MadeFolder(path), &came);
-        came
+        match fs::create_dir(self.rt, path) {
+            Ok(()) => {
+                self.log = self.log.then(&Step::MadeFolder(path));
+                Ok(())
+            }
+            Err(error) => {
+                if error.kind() == ErrorKind::AlreadyExists {
+                    self.log = self.log.then(&Step::Looked(path, true));
+                } else {
+                    self.log = self.log.then_failed(&Step::MadeFolder(path));
+                }
+                Err(error)
+            }
+        }
     }
 
     fn open_file(&mut self, how: &OpenOptions, path: &str) -> io::Result<()> {
