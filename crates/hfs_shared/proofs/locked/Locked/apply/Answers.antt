@@ -5,12 +5,12 @@ use Rattle.hfs_shared.proofs.locked.Locked.apply.Goals as goal
 pub invariant_of-self : goal.invariant_of-self
 invariant_of-self g c =
     let l = c.self.inside in
-    locked_after published_stays g.K.Session.book g.K.Session.base l.desk c.apply.new.self l.pair l.added l.shown c.args.pass.now c.apply.new.pass c.args.call.now c.apply.result
-    c.apply.ensures.ok c.apply.ensures.err c.self.invariant
+    locked_after published_stays g.K.Session.book g.K.Session.base g.K.Session.plan l.desk c.apply.new.self l.pair l.added l.shown c.args.pass.now c.apply.new.pass c.args.call.now c.apply.result
+    c.requires c.apply.ensures.ok c.apply.ensures.err c.self.invariant
 
 pub returns-clause-headline : goal.returns-clause-headline
 returns-clause-headline g c =
     let l = c.self.inside in
-    under_lock g.K.Session.book g.K.Session.base c.apply.new.self l.pair l.added l.shown
-    (locked_after published_stays g.K.Session.book g.K.Session.base l.desk c.apply.new.self l.pair l.added l.shown c.args.pass.now c.apply.new.pass c.args.call.now c.apply.result
-    c.apply.ensures.ok c.apply.ensures.err c.self.invariant)
+    under_lock g.K.Session.book g.K.Session.base g.K.Session.plan c.apply.new.self l.pair l.added l.shown
+    (locked_after published_stays g.K.Session.book g.K.Session.base g.K.Session.plan l.desk c.apply.new.self l.pair l.added l.shown c.args.pass.now c.apply.new.pass c.args.call.now c.apply.result
+    c.requires c.apply.ensures.ok c.apply.ensures.err c.self.invariant)
