@@ -196,8 +196,8 @@ fn run_all<K: Session + Send + Sync, R: Threads + Wait + Sync, G: Gate + Sync>(
     let threads = jobs.len().max(1);
     let run = |i: usize, done: &mut Done|
         requires within { i < length jobs.now.items }
-        requires planned { (j : _) → AreNextPlanned K.plan done.entry.now.pass.worker
-            done.entry.now.pass.number (get_or jobs.entry.now.items i j).1.items }
+        requires planned { (j : _) → AreNextPlanned K.plan done.now.pass.worker
+            done.now.pass.number (get_or jobs.now.items i j).1.items }
         ensures { (j : _) → IsDone K.book K.base K.plan done.entry.now.pass
             (get_or jobs.entry.now.items i j).1.items done.exit.now }
     { work(shared, rt, alloc, gate, &jobs[i].1, done) };

@@ -31,8 +31,8 @@ of_none P None e = tt
 of_none P (Some x) e = absurd (cc e)
 
 -- the next call is the planned one
-pub one_more-fault-requires-in-loop-call : goal.one_more-fault-requires-in-loop-call
-one_more-fault-requires-in-loop-call g c =
+pub one_more-fault-requires : goal.one_more-fault-requires
+one_more-fault-requires g c =
     let i = c.loop-call.invariant in
     let at = c.loop-call.call-index in
     let items = c.deref-call-items.ensures.value in

@@ -1,6 +1,15 @@
+use Rattle.std.proofs.Common.{subst}
+use Rattle.std.specs.Prelude.{IfOk}
+use Rattle.hfs_model.specs.declared.reply.Reply.{Reply}
+use Rattle.hfs_shared.specs.Desks.{IsApplied}
+use Rattle.hfs_shared.specs.Lockeds.{LockedState, desk_of}
 use Rattle.hfs_shared.proofs.Showing.{locked_after, under_lock}
 use Rattle.hfs_shared.proofs.PublishedLawsProved.{published_stays}
 use Rattle.hfs_shared.proofs.locked.Locked.apply.Goals as goal
+
+pub returns-clause-ok : goal.returns-clause-ok
+returns-clause-ok g c =
+    subst (λ (s : LockedState). IfOk c.apply.result (λ (r : Reply). IsApplied (desk_of s) c.args.pass.now c.args.call.now r c.apply.new.self c.apply.new.pass)) c.self.view_is c.apply.ensures.ok
 
 pub invariant_of-self : goal.invariant_of-self
 invariant_of-self g c =
