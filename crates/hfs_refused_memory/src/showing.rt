@@ -1,5 +1,5 @@
 //! What is published while memory is refused once, and what a viewer then shows.
-ghost use Rattle.std.specs.Prelude.{◌≡◌, IfOk, OnOk};
+ghost use Rattle.std.specs.Prelude.{◌≡◌, IfOk, OnOk, None};
 
 use crate::letters::{create, letters_in};
 use crate::sharing::begun_on_new;
@@ -16,6 +16,7 @@ use std::sync::Wait;
 const NAMES: &[u8] = b"abcdefghijklmnop";
 
 /// The reply to one call, and the list that is published then.
+#[tactic(auto, using(hfs_shared::proofs::Unplanned::any_planned))]
 fn answered_once<K: Session>(
     rt: &impl Wait,
     alloc: Global,
@@ -23,6 +24,7 @@ fn answered_once<K: Session>(
     pass: &mut Pass,
     call: Call,
 ) -> Result<(Reply, Told), CallFault>
+    requires { K.plan ≡ None }
     ensures { IfOk result (λ answer. answer.1.book ≡ K.book) }
 {
     match shared.call(rt, alloc, pass, call) {
@@ -40,6 +42,7 @@ fn answered<K: Session>(
     pass: &mut Pass,
     name: &[u8],
 ) -> Result<(Reply, Told)>
+    requires { K.plan ≡ None }
     ensures { IfOk result (λ answer. answer.1.book ≡ K.book) }
 {
     if let Ok(answer) = answered_once(rt, alloc, shared, pass, create(alloc, name)?) {
@@ -117,7 +120,8 @@ fn shown<K: Session>(
     name: &[u8],
     number: u64,
 ) -> Result<u64>
-    requires { viewer.old.book ≡ K.book }
+    requires viewer { viewer.old.book ≡ K.book }
+    requires plan { K.plan ≡ None }
     ensures { OnOk result (viewer.new.book ≡ K.book) }
 {
     let (reply, told) = answered(rt, alloc, shared, pass, name)?;
@@ -148,7 +152,8 @@ fn show_each<K: Session>(
     passes: &mut Vec<Pass>,
     viewer: &mut Viewer,
 ) -> Result<Outcome>
-    requires { viewer.old.book ≡ K.book }
+    requires viewer { viewer.old.book ≡ K.book }
+    requires plan { K.plan ≡ None }
 {
     let Some(pass) = passes.first_mut() else {
         bail!("no pass");
@@ -178,6 +183,7 @@ fn show_all<K: Session, R: Wait>(
 ) -> Result<Outcome>
     requires parts { (parts.book ≡ K.book) × (parts.base ≡ K.base) }
     requires viewer { viewer.old.book ≡ K.book }
+    requires plan { K.plan ≡ None }
 {
     let shared = parts.share::<K>();
     let outcome = show_each(rt, alloc, &shared, &mut passes, viewer)?;

@@ -1,5 +1,5 @@
 //! Workers in threads, while memory is refused once. Worker 1 makes the files `a` and `b`, and worker 2 the files `c` and `d`.
-ghost use Rattle.std.specs.Prelude.{◌≡◌};
+ghost use Rattle.std.specs.Prelude.{◌≡◌, None};
 
 use crate::letters::{create, letters_in};
 use crate::sharing::{begun_on_new, closed};
@@ -107,12 +107,15 @@ fn passes_back(alloc: Global, jobs: Vec<(Pass, Vec<Call>)>) -> Result<Vec<Pass>>
 }
 
 /// Runs the workers with the calls that they have not made yet, and returns their passes.
+#[tactic(auto, using(hfs_shared::proofs::Unplanned::any_jobs_planned))]
 fn run_once<K: Session + Send + Sync, R: Threads + Wait + Sync>(
     shared: &Shared<K>,
     threads: &R,
     alloc: Global,
     passes: Vec<Pass>,
-) -> Result<Vec<Pass>> {
+) -> Result<Vec<Pass>>
+    requires { K.plan ≡ None }
+{
     let jobs = jobs_of(alloc, passes)?;
     match run_workers(shared, threads, alloc, &NoGate, jobs) {
         Ok(dones) => passes_of(alloc, dones),
@@ -126,7 +129,9 @@ fn run_thrice<K: Session + Send + Sync, R: Threads + Wait + Sync>(
     threads: &R,
     alloc: Global,
     passes: Vec<Pass>,
-) -> Result<Vec<Pass>> {
+) -> Result<Vec<Pass>>
+    requires { K.plan ≡ None }
+{
     let passes = run_once(shared, threads, alloc, passes)?;
     let passes = run_once(shared, threads, alloc, passes)?;
     run_once(shared, threads, alloc, passes)
@@ -148,6 +153,7 @@ fn run_all<K: Session + Send + Sync, R: Threads + Wait + Sync>(
 ) -> Result<bool>
     requires parts { (parts.book ≡ K.book) × (parts.base ≡ K.base) }
     requires viewer { viewer.old.book ≡ K.book }
+    requires plan { K.plan ≡ None }
 {
     let shared = parts.share::<K>();
     let passes = run_thrice(&shared, threads, alloc, passes)?;

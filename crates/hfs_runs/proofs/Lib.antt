@@ -23,5 +23,6 @@ pub mod KeptWorking
 pub mod RunOver
 pub mod Answered
 pub mod OnImage
+mod JournalLines
 mod Digits
 mod RunNeeded

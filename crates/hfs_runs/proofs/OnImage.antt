@@ -1,7 +1,8 @@
 -- What a run over a copy of an image answers its workers is what the image answers.
-use Rattle.std.proofs.Common.{◌≡◌, inl, inr, ⊎_elim, ℕ, zero, suc, ◌+◌, ◌<◌, Bool, true, false, cond, List, [], ◌∷◌, map, filter, length, get_or, Option, refl, sym, ap, subst, ◌∙◌, arith, true≢false}
+use Rattle.std.proofs.Common.{◌≡◌, inl, inr, ⊎_elim, ℕ, zero, suc, ◌+◌, ◌-◌, ◌<◌, Bool, true, false, cond, List, [], ◌∷◌, ◌++◌, map, filter, length, get_or, slice_get, Option, Some, refl, sym, ap, subst, ◌∙◌, arith, true≢false}
 use Rattle.std.proofs.lemmas.Bool.{or_left, or_right}
 use Rattle.std.proofs.lemmas.List.{length-map, get_or-map}
+use Rattle.std.proofs.lemmas.Option.{get_or_from_slice_get, slice_get_within}
 use Rattle.logbook.specs.Pages.{Book}
 use Rattle.hfs_fields.specs.Members.{In}
 use Rattle.hfs_model.specs.declared.call.Call.{Call}
@@ -18,6 +19,7 @@ use Rattle.hfs_check.specs.VolumeOf.{volume_of}
 use Rattle.hfs_shared.specs.Tolds.{ToldState}
 use Rattle.hfs_shared.specs.declared.done.Done.{Done}
 use Rattle.hfs_volume.specs.Serving.{free_in, depth_in}
+use Rattle.hfs_model.specs.Named.{AreOf}
 use Rattle.hfs_model.specs.Alike.{bare_volume, no_file, reads_fork}
 use Rattle.hfs_model.proofs.AlikeLawsProved.{alike_after, alike_wanting, alike_within}
 use Rattle.hfs_model.proofs.NamedItems.{asked_answer_alike}
@@ -26,12 +28,15 @@ use Rattle.hfs_scripts.specs.declared.lines.Caller.{Caller}
 use Rattle.hfs_scripts.specs.declared.lines.Caller.TheVariants.{Worker}
 use Rattle.hfs_scripts.specs.declared.lines.ScriptLine.{ScriptLine}
 use Rattle.hfs_scripts.specs.Callers.{calls_of, is_same}
-use Rattle.hfs_shared.specs.Desks.{PassState, pass_state}
+use Rattle.hfs_shared.specs.Desks.{PassState, entry_of, pass_state}
+use Rattle.hfs_shared.specs.Plans.{ArePlanned}
 use Rattle.hfs_shared.specs.Shareds.{IsReplyOf}
-use Rattle.hfs_shared.specs.Works.{IsWork}
+use Rattle.hfs_shared.specs.Works.{IsWork, later}
 use Rattle.hfs_runs.specs.Naming.{line_calls, read_forks, uses_fork}
-use Rattle.hfs_runs.specs.OnImage.{AreOfWhereRead, AreWorkersOnImage, IsForkReplyIn, IsLinesCopy, IsReplyIn, IsReplyOnImage, IsSomeReplyOnImage, SavedIsMade, WorkersReadTheImage}
+use Rattle.hfs_runs.specs.Jobs.{plan_of}
+use Rattle.hfs_runs.specs.OnImage.{AreWorkersOnImage, IsForkReplyIn, IsLinesCopy, IsReplyIn, IsReplyOnImage, IsSomeReplyOnImage, SavedIsMade, WorkersReadTheImage}
 use Rattle.hfs_runs.proofs.Answered.{fork-outcome, other-outcome}
+use Rattle.hfs_fields.proofs.ElementLemmas.{each-left}
 use Rattle.hfs_fields.proofs.MemberLemmas.{in-at}
 
 -- ---- calls of lines
@@ -48,6 +53,22 @@ in-lines caller (line ∷ lines) c i = by (λ there. in-lines caller lines c the
     by rest true (inl same) = inl same
     by rest true (inr there) = inr (rest there)
     by rest false there = inr (rest there)
+
+-- entries with planned calls are of calls of lines
+planned-of : (lines : List ScriptLine) (es : List Entry) → ArePlanned (plan_of lines) es → AreOf (line_calls lines) es
+planned-of lines [] planned = tt
+planned-of lines (e ∷ es) planned =
+    let mine = calls_of (Worker e.worker) lines in
+    let at : slice_get mine (e.stamp - 1) ≡ Some e.call = planned 0 e (omega arith) in
+    let there : In (get_or mine (e.stamp - 1) e.call) mine = in-at mine (e.stamp - 1) e.call (slice_get_within mine (e.stamp - 1) e.call at) in (
+      in-lines (Worker e.worker) lines e.call (subst (λ (c : Call). In c mine) (get_or_from_slice_get mine (e.stamp - 1) e.call e.call at) there),
+      planned-of lines es (λ k d lt. planned (suc k) d (omega (arith, lt))),
+    )
+
+-- the first of some entries with planned calls have such calls
+planned-front : (lines : List ScriptLine) (before behind : List Entry) → ArePlanned (plan_of lines) (before ++ behind) → AreOf (line_calls lines) before
+planned-front lines before behind planned =
+    each-left (λ (e : Entry). In e.call (line_calls lines)) before behind (planned-of lines (before ++ behind) planned)
 
 -- where one of the calls reads a fork, forks are read for the lines
 reads-of : (lines : List ScriptLine) (c : Call) → In c (line_calls lines) → reads_fork c ≡ true → read_forks lines ≡ true
@@ -85,14 +106,14 @@ module _ (lines : List ScriptLine) (copy image : List ℕ) (is : IsLinesCopy lin
   abbrev calls : List Call
   calls = line_calls lines
 
-  answers : (free depth : ℕ) (before : List Entry) (c : Call) → In c (line_calls lines) → AreOfWhereRead (line_calls lines) before c
+  answers : (free depth : ℕ) (before : List Entry) (c : Call) → In c (line_calls lines) → AreOf (line_calls lines) before
       → (step_within free depth (after (volume_of image) before) c).1 ≡ (step_within free depth (after (volume_of copy) before) c).1
   answers free depth before c there asked = by (reads_fork c) refl
     where
       by : (b : Bool) → reads_fork c ≡ b → (step_within free depth (after (volume_of image) before) c).1 ≡ (step_within free depth (after (volume_of copy) before) c).1
       by true e =
           let forks = is.forks (reads-of lines c there e) in
-          asked_answer_alike forks.keep (line_calls lines) (volume_of copy) (volume_of image) before free depth c forks.alike forks.named (asked e) there
+          asked_answer_alike forks.keep (line_calls lines) (volume_of copy) (volume_of image) before free depth c forks.alike forks.named asked there
       by false e =
           let alike = alike_after no_file (volume_of copy) (volume_of image) before (copies_answer copy image is.working).alike in
           (alike_within no_file free depth (after (volume_of copy) before) (after (volume_of image) before) c alike).reply e
@@ -114,11 +135,11 @@ module _ (lines : List ScriptLine) (copy image : List ℕ) (is : IsLinesCopy lin
             ∙ sym (fork-answers o.want before c writes);
       }
 
-  on-image : (before : List Entry) (c : Call) (r : Reply) → In c (line_calls lines) → IsReplyOf copy (after (volume_of copy) before) c r
-      → IsReplyOnImage (line_calls lines) copy image before c r
-  on-image before c r there s = record {
+  on-image : (before : List Entry) (c : Call) (r : Reply) → In c (line_calls lines) → AreOf (line_calls lines) before → IsReplyOf copy (after (volume_of copy) before) c r
+      → IsReplyOnImage copy image before c r
+  on-image before c r there asked s = record {
     on_copy = s;
-    on_image = λ asked. record {
+    on_image = record {
       other = λ e.
           ap (λ (outcome : Outcome). outcome.1) (other-outcome s.image c (s.left, r) s.outcome e)
           ∙ ap (λ (v : Volume). (step_within (free_in s.image) (depth_in s.image) v c).1) s.volume_is
@@ -131,7 +152,7 @@ module _ (lines : List ScriptLine) (copy image : List ℕ) (is : IsLinesCopy lin
 
   module _ (book : Book) (worker : ℕ) (told : List (Reply × ToldState)) (last : PassState) (replies : List Reply)
       (same : map (λ (answer : Reply × ToldState). answer.0) told ≡ replies)
-      (w : IsWork book copy (pass_state worker 1) (calls_of (Worker worker) lines) last told) where
+      (w : IsWork book copy (plan_of lines) (pass_state worker 1) (calls_of (Worker worker) lines) last told) where
     below : (k : ℕ) → k < length replies → k < length told
     below k lt = omega (arith, lt, ap length same, length-map told (λ (answer : Reply × ToldState). answer.0))
 
@@ -140,14 +161,14 @@ module _ (lines : List ScriptLine) (copy image : List ℕ) (is : IsLinesCopy lin
         let mine = calls_of (Worker worker) lines in
         in-lines (Worker worker) lines (get_or mine k c) (in-at mine k c (omega (arith, below k lt, w.few)))
 
-    reply-at : (k : ℕ) (c : Call) (r : Reply) → k < length replies → IsSomeReplyOnImage (line_calls lines) copy image (get_or (calls_of (Worker worker) lines) k c) (get_or replies k r)
+    reply-at : (k : ℕ) (c : Call) (r : Reply) → k < length replies → IsSomeReplyOnImage copy image (get_or (calls_of (Worker worker) lines) k c) (get_or replies k r)
     reply-at k c r lt =
         let none : Reply × ToldState = (r, record { book = book; list = []; shown = 0; made = 0 }) in
         let made = w.each k c none (below k lt) in
         let is_it : (get_or told k none).0 ≡ get_or replies k r =
         sym (get_or-map (λ (answer : Reply × ToldState). answer.0) told k none r (below k lt)) ∙ ap (λ (rs : List Reply). get_or rs k r) same in
         let call = get_or (calls_of (Worker worker) lines) k c in
-        (made.0, on-image made.0 call (get_or replies k r) (call-there k c lt) (subst (λ (x : Reply). IsReplyOf copy (after (volume_of copy) made.0) call x) is_it made.1.reply))
+        (made.0, on-image made.0 call (get_or replies k r) (call-there k c lt) (planned-front lines made.0 (entry_of (later (pass_state worker 1) k) call (get_or told k none).0 ∷ []) made.1.planned) (subst (λ (x : Reply). IsReplyOf copy (after (volume_of copy) made.0) call x) is_it made.1.reply))
 
 -- a member of a list that isn't empty
 with-one : (dones : List Done) (P : Type 0) → 0 < length dones → (Done → P) → P
@@ -173,7 +194,8 @@ workers_read_the_image copy image lines volume text whole shown told is ran plac
                 s.behind,
                 s.whole,
                 on-image lines copy image is s.before (get_or (calls_of (Worker worker) lines) k call) (get_or replies k reply)
-                    (call-there lines copy image is ran.book worker done.replies.items done.pass replies worked.0 worked.1.work k call lt) s.reply_is,
+                    (call-there lines copy image is ran.book worker done.replies.items done.pass replies worked.0 worked.1.work k call lt)
+                    (planned-front lines s.before s.behind (subst (λ (es : List Entry). ArePlanned (plan_of lines) es) (sym s.whole) ran.planned)) s.reply_is,
               );
         }
 

@@ -19,6 +19,7 @@ use Rattle.hfs_shared.specs.Lists.{shown}
 use Rattle.hfs_shared.specs.Tolds.{ToldState}
 use Rattle.hfs_shared.proofs.Prefixes.{prefix_trans}
 use Rattle.hfs_shared.specs.Desks.{PassState, entry_of}
+use Rattle.hfs_shared.specs.Plans.{Plan}
 use Rattle.hfs_shared.specs.Shareds.{IsReplyOf, IsSomeCall}
 use Rattle.hfs_runs.specs.Standing.{BeginsWith, Stands, is_change}
 use Rattle.hfs_shared.proofs.Following.{changes_accepted, changes_other, changes-append}
@@ -164,10 +165,10 @@ changes_within journal n = (changes (drop n journal), sym (changes-append (take 
 tail_begins : {A : Type 0} (x y : A) (xs ys : List A) → IsPrefix (x ∷ xs) (y ∷ ys) → IsPrefix xs ys
 tail_begins x y xs ys p = (p.0, cc (p.1))
 
-pub stands : PublishedIsAfter → (book : Book) (base : List ℕ) (journal : List Entry) (covered : ℕ) (seen last : List Item) (p q : PassState) (c : Call) (r : Reply) (t : ToldState)
-    → IsLegal (volume_of base) journal → IsSomeCall book base p c r t q → t.shown ≡ t.made → IsPrefix t.list seen → IsPrefix seen last → last ≡ published (volume_of base) journal covered
+pub stands : PublishedIsAfter → (book : Book) (base : List ℕ) (plan : Plan) (journal : List Entry) (covered : ℕ) (seen last : List Item) (p q : PassState) (c : Call) (r : Reply) (t : ToldState)
+    → IsLegal (volume_of base) journal → IsSomeCall book base plan p c r t q → t.shown ≡ t.made → IsPrefix t.list seen → IsPrefix seen last → last ≡ published (volume_of base) journal covered
     → Stands base journal c r
-stands law book base journal covered seen last p q c r t legal made whole learned begins is =
+stands law book base plan journal covered seen last p q c r t legal made whole learned begins is =
     let opening = volume_of base in
     let before = made.0 in
     let call = made.1 in

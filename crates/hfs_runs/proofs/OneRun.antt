@@ -16,10 +16,12 @@ use Rattle.hfs_shared.proofs.LawTypes.{PublishedIsAfter}
 use Rattle.hfs_shared.specs.Closings.{HasNoOthers, IsWhether}
 use Rattle.hfs_shared.specs.declared.done.Done.{Done}
 use Rattle.hfs_shared.specs.Desks.{PassState}
+use Rattle.hfs_shared.specs.Plans.{Plan, ArePlanned}
 use Rattle.hfs_runs.specs.declared.numbering.Asked.{Asked}
 use Rattle.hfs_runs.specs.declared.viewing.Viewing.{Viewing}
 use Rattle.hfs_runs.specs.Answers.{answers_text, is_whole, replies_of}
 use Rattle.hfs_runs.specs.Asking.{AreNumbered}
+use Rattle.hfs_runs.specs.Jobs.{plan_of}
 use Rattle.hfs_runs.specs.Runs.{IsHandedOut, AreLinesRun, AreLinesRunUntold, IsScriptRun}
 use Rattle.hfs_runs.specs.Tellings.{AreWhole, OfEach, ToldReplies}
 use Rattle.hfs_runs.proofs.Late.{told_exactly}
@@ -45,12 +47,13 @@ when_true true is h = h
 when_true false is h = absurd (cc is)
 
 pub ran : {V : Type 0} (items : V → List Call) (book : Book) (image : List ℕ) (lines : List ScriptLine) (volume : ImageValue) (text : List ℕ) (whole shown : Bool) (told : ToldReplies) (asked : List Asked) (passes : List PassState)
-    (jobs : List (PassState × V)) (dones : List Done) (begun ended : List Viewing) → AreNumbered (map (λ (line : ScriptLine). line.caller) lines) asked → AreJobs items lines (workers lines) passes jobs
-    → AreDone items book image jobs dones → AreViewings book (volume_of image) lines (viewers lines) begun → AreViewed begun ended → text ≡ answers_text (replies_of dones ended) asked
-    → whole ≡ is_whole (replies_of dones ended) asked → PublishedIsAfter → IsWhether shown (OfEach AreWhole dones) → told ≡ map (λ (done : Done). done.replies) dones → IsHandedOut image volume dones
+    (plan : Plan) (jobs : List (PassState × V)) (dones : List Done) (begun ended : List Viewing) → AreNumbered (map (λ (line : ScriptLine). line.caller) lines) asked → AreJobs items lines (workers lines) passes jobs
+    → AreDone items book image plan jobs dones → AreViewings book (volume_of image) lines (viewers lines) begun → AreViewed begun ended → text ≡ answers_text (replies_of dones ended) asked
+    → whole ≡ is_whole (replies_of dones ended) asked → PublishedIsAfter → IsWhether shown (OfEach AreWhole dones) → told ≡ map (λ (done : Done). done.replies) dones → plan ≡ plan_of lines → IsHandedOut image plan volume dones
     → AreLinesRun image lines volume text whole shown told
-ran items book image lines volume text whole shown told asked passes jobs dones begun ended numbered begins done views viewed text_is whole_is law shown_is told_is out =
+ran items book image lines volume text whole shown told asked passes plan jobs dones begun ended numbered begins done views viewed text_is whole_is law shown_is told_is plan_is out =
     let opening = volume_of image in
+    let planned : AreDone items book image (plan_of lines) jobs dones = subst (λ (p : Plan). AreDone items book image p jobs dones) plan_is done in
     let closed = out.closed in
     let end : IsEnd opening out.journal out.shown out.before.list out.afterwards.list dones =
     record { legal = closed.legal; learned = out.learned; begins = closed.begins; published_is = closed.seen } in
@@ -69,15 +72,16 @@ ran items book image lines volume text whole shown told asked passes jobs dones 
       wrote = closed.made;
       legal = closed.legal;
       follows = closed.follows;
-      made = λ place below. made_at items book image lines (workers lines) passes jobs dones out.journal begins done closed.all place below;
-      others = subst (λ (n : ℕ). HasNoOthers n out.journal) (passes_count items book image lines passes jobs dones begins done) closed.others;
-      many = dones_count items book image lines passes jobs dones begins done;
-      worked = λ place none below. worked_at items book image lines (workers lines) passes jobs dones begins done place none below;
+      made = λ place below. made_at items book image plan lines (workers lines) passes jobs dones out.journal begins done closed.all place below;
+      others = subst (λ (n : ℕ). HasNoOthers n out.journal) (passes_count items book image plan lines passes jobs dones begins done) closed.others;
+      planned = subst (λ (p : Plan). ArePlanned p out.journal) plan_is out.planned;
+      many = dones_count items book image plan lines passes jobs dones begins done;
+      worked = λ place none below. worked_at items book image (plan_of lines) lines (workers lines) passes jobs dones begins planned place none below;
       viewed = λ place below. viewed_at book opening lines (viewers lines) begun ended views viewed place below;
       told_is = told_is;
-      shown_is = told_exactly shown dones (told_within items book image jobs dones done) shown_is;
+      shown_is = told_exactly shown dones (told_within items book image plan jobs dones done) shown_is;
       stands = λ yes place below.
-          stand_at items book image lines (workers lines) passes jobs dones begins done law out.journal out.shown out.before.list out.afterwards.list end (when_true shown yes shown_is) place below;
+          stand_at items book image plan lines (workers lines) passes jobs dones begins done law out.journal out.shown out.before.list out.afterwards.list end (when_true shown yes shown_is) place below;
     }
 
 -- the same run, by a text and a test that are the same

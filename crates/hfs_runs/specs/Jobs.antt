@@ -1,11 +1,12 @@
 -- Each caller of a script with its own calls.
-use Rattle.std.specs.Prelude.{◌≡◌, ℕ, ◌+◌, ◌<◌, Bool, true, false, List, length, get_or}
+use Rattle.std.specs.Prelude.{◌≡◌, ℕ, ◌+◌, ◌<◌, Bool, true, false, List, Some, length, get_or}
 use Rattle.std.specs.List.{list_any}
 use Rattle.hfs_model.specs.declared.call.Call.{Call}
 use Rattle.hfs_scripts.specs.declared.lines.Caller.{Caller}
 use Rattle.hfs_scripts.specs.declared.lines.Caller.TheVariants.{Worker, Viewer}
 use Rattle.hfs_scripts.specs.declared.lines.ScriptLine.{ScriptLine}
 use Rattle.hfs_scripts.specs.Callers.{calls_of}
+use Rattle.hfs_shared.specs.Plans.{Plan}
 
 -- each that was made has what was given for it
 abbrev pub HaveEach : {A B : Type 0} → (B → A) → List A → List B → Type 0
@@ -14,6 +15,10 @@ HaveEach {A} {B} part given made = (i : ℕ) (b : B) (a : A) → i < length give
 -- each of so many has the script's calls of its caller, counted from 1
 abbrev pub HaveCalls : {B : Type 0} → (B → List Call) → (ℕ → Caller) → ℕ → List ScriptLine → List B → Type 0
 HaveCalls {B} part caller count script made = (i : ℕ) (b : B) → i < count → part (get_or made i b) ≡ calls_of (caller (i + 1)) script
+
+-- what these lines plan for each worker: its calls, in their order
+abbrev pub plan_of : List ScriptLine → Plan
+plan_of lines = Some (λ worker. calls_of (Worker worker) lines)
 
 -- the second script has the viewers' calls of the first
 abbrev pub HasViewersOf : List ScriptLine → List ScriptLine → Type 0

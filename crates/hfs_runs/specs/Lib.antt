@@ -11,5 +11,6 @@ pub mod Naming
 pub mod NamedForks
 pub mod NeededRuns
 pub mod OnImage
+pub mod JournalLines
 pub mod RunFaults
 pub mod Running

@@ -17,8 +17,8 @@ use Rattle.hfs_check.specs.VolumeOf.{volume_of}
 use Rattle.hfs_source.specs.Sparse.{sparse, IsOf}
 use Rattle.hfs_volume.specs.Image.{ImageValue, copy_of, patched}
 use Rattle.hfs_volume.specs.Serving.{free_in, depth_in}
-use Rattle.hfs_model.specs.Alike.{AreAlike, reads_fork}
-use Rattle.hfs_model.specs.Named.{AreOf, KeepsNamed}
+use Rattle.hfs_model.specs.Alike.{AreAlike}
+use Rattle.hfs_model.specs.Named.{KeepsNamed}
 use Rattle.hfs_copy.specs.declared.opening.WorkingVolume.{WorkingVolume}
 use Rattle.hfs_copy.specs.Opened.{IsWorkingOf}
 use Rattle.hfs_copy.specs.Working.{IsWorkingCopy}
@@ -44,10 +44,6 @@ pub record IsLinesCopy (lines : List ScriptLine) (copy image : List ℕ) : Type 
   pub working : IsWorkingCopy copy image
   pub forks : read_forks lines ≡ true → ShareForks (line_calls lines) copy image
 
--- of a call that reads a fork, the entries are of these calls alone
-abbrev pub AreOfWhereRead : List Call → List Entry → Call → Type 0
-AreOfWhereRead calls before call = reads_fork call ≡ true → AreOf calls before
-
 -- this is wanting of a call that writes a fork, in an image, if anything is, and the reply is the one of a volume where the same is wanting
 pub record IsForkReplyIn (image : List ℕ) (v : Volume) (call : Call) (reply : Reply) : Type 0 where
   pub want : Option Want
@@ -60,20 +56,19 @@ pub record IsReplyIn (image : List ℕ) (v : Volume) (call : Call) (reply : Repl
   pub other : is_writing call ≡ false → reply ≡ (step_within (free_in image) (depth_in image) v call).1
   pub fork : is_writing call ≡ true → IsForkReplyIn image v call reply
 
--- the copy's reply to a call after some entries is the image's after the same ones, where as much is lacking as in the copy there; of a call
--- that reads a fork, where the entries are of these calls alone
-pub record IsReplyOnImage (calls : List Call) (copy image : List ℕ) (before : List Entry) (call : Call) (reply : Reply) : Type 0 where
+-- the copy's reply to a call after some entries is the image's after the same ones, where as much is lacking as in the copy there
+pub record IsReplyOnImage (copy image : List ℕ) (before : List Entry) (call : Call) (reply : Reply) : Type 0 where
   pub on_copy : IsReplyOf copy (after (volume_of copy) before) call reply
-  pub on_image : AreOfWhereRead calls before call → IsReplyIn on_copy.image (after (volume_of image) before) call reply
+  pub on_image : IsReplyIn on_copy.image (after (volume_of image) before) call reply
 
 -- so is the reply after some entries
-abbrev pub IsSomeReplyOnImage : List Call → List ℕ → List ℕ → Call → Reply → Type 0
-IsSomeReplyOnImage calls copy image call reply = (before : List Entry) × IsReplyOnImage calls copy image before call reply
+abbrev pub IsSomeReplyOnImage : List ℕ → List ℕ → Call → Reply → Type 0
+IsSomeReplyOnImage copy image call reply = (before : List Entry) × IsReplyOnImage copy image before call reply
 
 -- so it is after the first entries of a journal
-abbrev pub StandsOnImage : List Call → List ℕ → List ℕ → List Entry → Call → Reply → Type 0
-StandsOnImage calls copy image journal call reply =
-    (before : List Entry) × (behind : List Entry) × (before ++ behind ≡ journal) × IsReplyOnImage calls copy image before call reply
+abbrev pub StandsOnImage : List ℕ → List ℕ → List Entry → Call → Reply → Type 0
+StandsOnImage copy image journal call reply =
+    (before : List Entry) × (behind : List Entry) × (before ++ behind ≡ journal) × IsReplyOnImage copy image before call reply
 
 -- the fact holds of each of these replies to the first calls
 abbrev pub OfReplies : (Call → Reply → Type 0) → List Call → List Reply → Type 0
@@ -82,8 +77,8 @@ OfReplies Fact calls replies = (k : ℕ) (call : Call) (reply : Reply) → k < l
 -- what workers were answered in a run over a copy is what the image answers: each reply after some entries, and where each change was
 -- shown at once, after those that the run's journal begins with
 pub record AreWorkersOnImage (lines : List ScriptLine) (copy image : List ℕ) (shown : Bool) (journal : List Entry) (worker : ℕ) (replies : List Reply) : Type 0 where
-  pub each : OfReplies (IsSomeReplyOnImage (line_calls lines) copy image) (calls_of (Worker worker) lines) replies
-  pub stand : shown ≡ true → OfReplies (StandsOnImage (line_calls lines) copy image journal) (calls_of (Worker worker) lines) replies
+  pub each : OfReplies (IsSomeReplyOnImage copy image) (calls_of (Worker worker) lines) replies
+  pub stand : shown ≡ true → OfReplies (StandsOnImage copy image journal) (calls_of (Worker worker) lines) replies
 
 -- so it is of all workers of a run
 abbrev pub AreAllOnImage : (lines : List ScriptLine) (copy image : List ℕ) (volume : ImageValue) (text : List ℕ) (whole shown : Bool) (told : ToldReplies) → AreLinesRun copy lines volume text whole shown told → Type 0

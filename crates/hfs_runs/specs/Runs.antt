@@ -22,6 +22,7 @@ use Rattle.hfs_shared.specs.Journals.{IsLegal, made_by}
 use Rattle.hfs_shared.specs.Closings.{HasNoOthers, IsClosed}
 use Rattle.hfs_shared.specs.declared.done.Done.{Done}
 use Rattle.hfs_shared.specs.Desks.{pass_state}
+use Rattle.hfs_shared.specs.Plans.{Plan, ArePlanned}
 use Rattle.hfs_shared.specs.Stages.{HaveMadeOf, stage_of}
 use Rattle.hfs_shared.specs.Works.{IsDone}
 use Rattle.hfs_runs.specs.declared.script_fault.ScriptFault.{ScriptFault}
@@ -32,7 +33,7 @@ use Rattle.hfs_runs.specs.declared.running.Ran.{Ran}
 use Rattle.hfs_runs.specs.declared.running.RanInPieces.{RanInPieces}
 use Rattle.hfs_runs.specs.Answers.{AreAnswered, answers_text, is_whole, kept_replies}
 use Rattle.hfs_runs.specs.Asking.{AreNumbered}
-use Rattle.hfs_runs.specs.Jobs.{has_viewer}
+use Rattle.hfs_runs.specs.Jobs.{has_viewer, plan_of}
 use Rattle.hfs_runs.specs.Pieces.{text_of_pieces}
 use Rattle.hfs_runs.specs.Standing.{AllStand}
 use Rattle.hfs_runs.specs.Tellings.{AllBegin, AreToldWhole, OfEach, ToldReplies}
@@ -72,29 +73,30 @@ IsRunFault now script image run.Memory = Unit {0}
 -- ---- runs
 
 -- a worker made its calls on what this image became, all of them or those before its first fault, and these are the replies, each that of
--- the call after some entries of a legal journal
-abbrev pub IsWorked : Book → List ℕ → ℕ → List Call → List Reply → Done → Type 0
-IsWorked book image worker calls replies done =
-    (map (λ reply. reply.0) done.replies.items ≡ replies) × IsDone book image (pass_state worker 1) calls done
+-- the call after some entries of a legal journal, each of which has the planned call
+abbrev pub IsWorked : Book → List ℕ → Plan → ℕ → List Call → List Reply → Done → Type 0
+IsWorked book image plan worker calls replies done =
+    (map (λ reply. reply.0) done.replies.items ≡ replies) × IsDone book image plan (pass_state worker 1) calls done
 
 -- these are the replies to the first of a viewer's calls, each on a published list that begins with the one before it
 abbrev pub IsViewedFrom : Book → Volume → List Call → List Reply → Type 0
 IsViewedFrom book opening calls replies = (seen : Known) × AreReads calls (known book (opened opening)) replies seen
 
--- a shared volume was closed with the passes of workers that had ended, and handed out; the viewer that it was closed by had
--- learned all that they were given
-pub record IsHandedOut (base : List ℕ) (volume : ImageValue) (dones : List Done) : Type 0 where
+-- a shared volume of workers with this plan was closed with their passes when they had ended, and handed out; the viewer that it
+-- was closed by had learned all that they were given
+pub record IsHandedOut (base : List ℕ) (plan : Plan) (volume : ImageValue) (dones : List Done) : Type 0 where
   pub journal : List Entry
   pub shown : ℕ
   pub before : Known
   pub afterwards : Known
   pub closed : IsClosed base volume journal shown (map (λ (done : Done). done.pass) dones) before afterwards
+  pub planned : ArePlanned plan journal
   pub learned : OfEach (AllBegin before.list) dones
 
 -- what a run of these lines on an image made: the volume afterwards, the text of the answers, whether all lines were answered, whether each
 -- change was shown at once, and what workers were told. The volume's image agrees with the given one, except for the blocks of forks that
 -- calls of a legal journal wrote, which made it one after the other, and its volume is the one after that journal, which has as many entries
--- of each worker as it got replies, and none of anybody else. Each change was shown at once exactly where each list that a worker was given
+-- of each worker as it got replies, and none of anybody else; each entry's call is that of one line, which its worker and number tell. Each change was shown at once exactly where each list that a worker was given
 -- covers all calls that were made until then, otherwise some list covers fewer; where it was, each reply to a worker is in that journal.
 pub record AreLinesRun (image : List ℕ) (lines : List ScriptLine) (volume : ImageValue) (text : List ℕ) (whole shown : Bool) (told : ToldReplies) : Type 0 where
   pub book : Book
@@ -113,9 +115,10 @@ pub record AreLinesRun (image : List ℕ) (lines : List ScriptLine) (volume : Im
   pub follows : volume_of volume.current ≡ after (volume_of image) journal
   pub made : (place : ℕ) → place < workers lines → made_by (place + 1) journal ≡ length (replies (Worker (place + 1)))
   pub others : HasNoOthers (workers lines) journal
+  pub planned : ArePlanned (plan_of lines) journal
   pub many : length dones ≡ workers lines
   pub worked : (place : ℕ) (none : Done) → place < workers lines
-      → IsWorked book image (place + 1) (calls_of (Worker (place + 1)) lines) (replies (Worker (place + 1))) (get_or dones place none)
+      → IsWorked book image (plan_of lines) (place + 1) (calls_of (Worker (place + 1)) lines) (replies (Worker (place + 1))) (get_or dones place none)
   pub viewed : (place : ℕ) → place < viewers lines → IsViewedFrom book (volume_of image) (calls_of (Viewer (place + 1)) lines) (replies (Viewer (place + 1)))
   pub told_is : told ≡ map (λ (done : Done). done.replies) dones
   pub shown_is : AreToldWhole shown dones

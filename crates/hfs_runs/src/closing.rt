@@ -69,7 +69,7 @@ fn close_by<K: Session, R: Wait>(
 ) -> Result<(Volume, Vec<Vec<(Reply, Told)>>), ScriptFault>
     requires book { viewer.old.book ≡ K.book }
     requires told { OfEach (AreOf K.book) dones.items }
-    ensures ok { IfOk result (λ r. IsHandedOut K.base r.0 dones.items) }
+    ensures ok { IfOk result (λ r. IsHandedOut K.base K.plan r.0 dones.items) }
     ensures replies { IfOk result (λ r. r.1.items ≡ map (λ done. done.replies) dones.items) }
     ensures err { IfErr result (λ fault. fault ≡ ScriptFault.Memory) }
 {
@@ -93,7 +93,7 @@ pub fn close<K: Session, R: Wait>(
     requires some { 0 < length viewings.items }
     requires book { (v : _) → (get_or viewings.items 0 v).viewer.book ≡ K.book }
     requires told { OfEach (AreOf K.book) dones.items }
-    ensures ok { IfOk result (λ r. IsHandedOut K.base r.0 dones.items) }
+    ensures ok { IfOk result (λ r. IsHandedOut K.base K.plan r.0 dones.items) }
     ensures replies { IfOk result (λ r. (caller : Caller)
         → kept_replies r.1 caller ≡ replies_of dones.items viewings.items caller) }
     ensures told { IfOk result (λ r.

@@ -31,7 +31,9 @@ mod viewing;
 mod written_answers;
 
 pub use crate::forks::fetch_named_forks;
-pub use crate::laws::{named_forks_are_the_images, saved_is_made, workers_read_the_image};
+pub use crate::laws::{
+    journals_have_the_lines, named_forks_are_the_images, saved_is_made, workers_read_the_image,
+};
 pub use crate::needed_running::{NeededRan, run_needed_at};
 pub use hfs_shared::Gate;
 pub use numbering::Asked;

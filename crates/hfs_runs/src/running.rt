@@ -3,8 +3,9 @@ ghost use Rattle.std.specs.Prelude.{◌≡◌, All, IfOk, IfErr, length};
 ghost use Rattle.std.specs.Thread.{IsSync};
 ghost use Rattle.hfs_scripts.specs.Callers.{workers, viewers};
 ghost use Rattle.hfs_shared.specs.Shareds.{IsStart};
-ghost use Rattle.hfs_shared.specs.Works.{AreDone};
+ghost use Rattle.hfs_shared.specs.Works.{AreDone, AreJobsPlanned};
 ghost use Rattle.hfs_runs.specs.Asking.{IsSmall};
+ghost use Rattle.hfs_runs.specs.Jobs.{plan_of};
 ghost use Rattle.hfs_runs.specs.Runs.{IsRunFault, IsScriptRunAs, IsStartFault, AreLinesMade, AreLinesRunAs, AreLinesRunInPieces};
 ghost use Rattle.hfs_runs.specs.Views.{AreViewed};
 
@@ -85,19 +86,21 @@ fn run_beside<K: Session + Send + Sync, R: Threads + Wait + Sync, G: Gate + Sync
     jobs: Vec<(Pass, Vec<Call>)>,
     viewings: Vec<Viewing>,
 ) -> (Result<Vec<Done>, RunFault>, Vec<Viewing>)
+    requires { AreJobsPlanned K.plan (λ c. c.items) jobs.items }
     ensures dones { IfOk result.0 (λ v. length v.items ≡ length jobs.items) }
     ensures done { IfOk result.0 (λ v.
-        AreDone K.book K.base (λ c. c.items) jobs.items v.items) }
+        AreDone K.book K.base K.plan (λ c. c.items) jobs.items v.items) }
     ensures viewings { length result.1.items ≡ length viewings.items }
     ensures viewed { AreViewed viewings.items result.1.items }
 {
     thread::join(
         rt,
         move || -> Result<Vec<Done>, RunFault>
-            requires { IsSync R.row × IsSync K.row × IsSync G.row }
+            requires sync { IsSync R.row × IsSync K.row × IsSync G.row }
+            requires planned { AreJobsPlanned K.plan (λ c. c.items) jobs.items }
             ensures dones { IfOk result (λ v. length v.items ≡ length jobs.items) }
             ensures done { IfOk result (λ v.
-                AreDone K.book K.base (λ c. c.items) jobs.items v.items) }
+                AreDone K.book K.base K.plan (λ c. c.items) jobs.items v.items) }
         { run_workers(shared, rt, alloc, gate, jobs) },
         move || -> Vec<Viewing>
             requires { IsSync R.row }
@@ -120,6 +123,7 @@ fn run_shared<K: Session + Send + Sync, R: Threads + Wait + Sync, G: Gate + Sync
     requires parts { (parts.book ≡ K.book) × (parts.base ≡ K.base) }
     requires started { IsStart K.base (workers script) (viewers script)
         parts passes.items readers.items }
+    requires planned { K.plan ≡ plan_of script }
     requires small { All (λ l. IsSmall l.caller) script }
     ensures ok { IfOk result (AreLinesMade K.base script) }
     ensures err { IfErr result (λ fault. fault ≡ ScriptFault.Memory) }

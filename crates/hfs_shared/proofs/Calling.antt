@@ -14,6 +14,7 @@ use Rattle.hfs_shared.specs.Desks.{DeskState, PassState, IsApplied, IsHeadline}
 use Rattle.hfs_shared.specs.declared.desk.CallFault.{CallFault}
 use Rattle.hfs_shared.specs.declared.desk.CallFault.TheVariants.{Stamp, Memory}
 use Rattle.hfs_shared.specs.Faults.{IsFaultAt, IsFaultUnder}
+use Rattle.hfs_shared.specs.Plans.{Plan, ArePlanned}
 use Rattle.hfs_shared.specs.Shareds.{IsToldOf, IsSomeCall}
 
 -- what is told of so many entries tells their number
@@ -31,9 +32,9 @@ pub fault_under : (wanted given : ℕ) (f : CallFault) → IsFaultAt wanted give
 fault_under wanted given (Stamp w g) h = (h.1, λ same. h.2 (sym h.1 ∙ same ∙ h.0))
 fault_under wanted given Memory h = tt
 
-pub is_call : (book : Book) (base : List ℕ) (s t : DeskState) (p q : PassState) (c : Call) (r : Reply) (x : ToldState)
-    → t.base ≡ base → IsApplied s p c r t q → IsToldOf book (volume_of base) t.journal x → IsSomeCall book base p c r x q
-is_call book base s t p q c r x base_is a told_is =
+pub is_call : (book : Book) (base : List ℕ) (plan : Plan) (s t : DeskState) (p q : PassState) (c : Call) (r : Reply) (x : ToldState)
+    → t.base ≡ base → IsApplied s p c r t q → ArePlanned plan t.journal → IsToldOf book (volume_of base) t.journal x → IsSomeCall book base plan p c r x q
+is_call book base plan s t p q c r x base_is a planned told_is =
     let opening = volume_of base in
     let opens_after : volume_of t.base ≡ opening = ap volume_of base_is in
     let opens : volume_of s.base ≡ opening = ap volume_of (sym a.base ∙ base_is) in
@@ -42,6 +43,7 @@ is_call book base s t p q c r x base_is a told_is =
       record {
         pass = a.pass;
         legal = subst (λ (y : Volume × List Entry). IsLegal y.0 y.1) (λ i. (opens_after i, a.journal i)) a.headline_after.legal;
+        planned = subst (λ (es : List Entry). ArePlanned plan es) a.journal planned;
         reply = record {
           image = s.current;
           written = s.written;

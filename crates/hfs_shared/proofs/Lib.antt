@@ -11,6 +11,7 @@ pub mod Headline
 pub mod Showing
 mod Stages
 pub mod SharedLawsProved
+pub mod Unplanned
 pub mod Calling
 pub mod Working
 mod Begun

@@ -2,7 +2,7 @@
 use Rattle.std.proofs.Common.{◌≡◌, ℕ, suc, ◌+◌, ◌-◌, ◌≤◌, length-append, Bool, false, List, [], ◌∷◌, ◌++◌, length, take, drop, refl, sym, ap, ◌∙◌, subst, arith}
 use Rattle.std.specs.Prelude.{Result, Ok, Err, IfOk, OnErr}
 use Rattle.std.proofs.lemmas.List.{append-nil, drop-drop}
-use Rattle.std.proofs.lemmas.List.Elements.{All-take, All-drop}
+use Rattle.std.proofs.lemmas.List.Elements.{All-append, All-cons, All-drop, All-nil, All-take}
 use Rattle.hfs_model.specs.declared.journal.Entry.{Entry}
 use Rattle.hfs_model.specs.Volume.{Volume}
 use Rattle.hfs_shared.specs.declared.item.Item.{Item}
@@ -17,21 +17,31 @@ use Rattle.hfs_shared.specs.Tolds.{told}
 use Rattle.logbook.specs.Pages.{Book}
 use Rattle.hfs_check.specs.VolumeOf.{volume_of}
 use Rattle.hfs_shared.specs.Desks.{DeskState, PassState, entry_of, IsApplied, IsHeadline}
+use Rattle.hfs_shared.specs.Plans.{Plan, IsPlanned, ArePlanned}
 use Rattle.hfs_shared.specs.Lockeds.{locked_state, IsLocked, IsUnderLock, GathersOf, ShowsOf}
 use Rattle.hfs_shared.proofs.Following.{changes_of}
 
+-- before any call
+pub none_planned : (plan : Plan) (journal : List Entry) → journal ≡ [] → ArePlanned plan journal
+none_planned plan journal empty = subst (λ (es : List Entry). ArePlanned plan es) (sym empty) (All-nil (λ (e : Entry). IsPlanned plan e.worker e.stamp e.call))
+
+-- one entry alone
+one_planned : (plan : Plan) (e : Entry) → IsPlanned plan e.worker e.stamp e.call → ArePlanned plan (e ∷ [])
+one_planned plan e planned = All-cons (λ (x : Entry). IsPlanned plan x.worker x.stamp x.call) e [] planned (All-nil (λ (x : Entry). IsPlanned plan x.worker x.stamp x.call))
+
 -- what the type says of what lies under the lock
-pub under_lock : (book : Book) (base : List ℕ) (d : DeskState) (p : PairState) (added shown : ℕ) → IsLocked book base d p added shown → IsUnderLock base (locked_state d shown)
-under_lock book base d p added shown i = record { base_is = i.base_is; headline = i.headline; within = omega (arith, i.order.0, i.order.1) }
+pub under_lock : (book : Book) (base : List ℕ) (plan : Plan) (d : DeskState) (p : PairState) (added shown : ℕ) → IsLocked book base plan d p added shown → IsUnderLock base plan (locked_state d shown)
+under_lock book base plan d p added shown i = record { base_is = i.base_is; headline = i.headline; planned = i.planned; within = omega (arith, i.order.0, i.order.1) }
 
 -- the pair's lists stay those of the journal while it grows
-pub locked_more : PublishedStays → (book : Book) (base : List ℕ) (d e : DeskState) (p : PairState) (added shown : ℕ) (more : List Entry)
-    → IsLocked book base d p added shown → e.base ≡ d.base → e.journal ≡ d.journal ++ more → IsHeadline e.base e.current e.written e.journal → IsLocked book base e p added shown
-locked_more stays book base d e p added shown more i same grown headline =
+pub locked_more : PublishedStays → (book : Book) (base : List ℕ) (plan : Plan) (d e : DeskState) (p : PairState) (added shown : ℕ) (more : List Entry)
+    → IsLocked book base plan d p added shown → e.base ≡ d.base → e.journal ≡ d.journal ++ more → IsHeadline e.base e.current e.written e.journal → ArePlanned plan more → IsLocked book base plan e p added shown
+locked_more stays book base plan d e p added shown more i same grown headline planned =
     let length_is : length e.journal ≡ length (d.journal ++ more) = ap length grown in
     record {
       base_is = same ∙ i.base_is;
       headline = headline;
+      planned = subst (λ (l : List Entry). ArePlanned plan l) (sym grown) (All-append (λ (x : Entry). IsPlanned plan x.worker x.stamp x.call) d.journal more i.planned planned);
       book_is = i.book_is;
       all_is = i.all_is ∙ sym (stays (volume_of d.base) d.journal more added i.order.1) ∙ (λ k. published (volume_of (sym same k)) (sym grown k) added);
       shown_is = i.shown_is ∙ sym (stays (volume_of d.base) d.journal more shown (omega (arith, i.order.0, i.order.1))) ∙ (λ k. published (volume_of (sym same k)) (sym grown k) shown);
@@ -60,10 +70,11 @@ none_later journal n m le none =
     subst (λ (l : List Entry). NoneAccepted l) (drop-drop (m - n) n journal ∙ ap (λ (k : ℕ). drop k journal) same) (All-drop (λ (e : Entry). is_accepted e ≡ false) (m - n) (drop n journal) none)
 
 -- after a call that was made or refused
-pub locked_after : PublishedStays → (book : Book) (base : List ℕ) (d e : DeskState) (p : PairState) (added shown : ℕ) (a b : PassState) (c : Call) (r : Result Reply CallFault)
-    → IfOk r (λ (x : Reply). IsApplied d a c x e b) → OnErr r ((e ≡ d) × (b ≡ a)) → IsLocked book base d p added shown → IsLocked book base e p added shown
-locked_after stays book base d e p added shown a b c (Ok x) ok err i = locked_more stays book base d e p added shown (entry_of a c x ∷ []) i ok.base ok.journal ok.headline_after
-locked_after stays book base d e p added shown a b c (Err f) ok err i = subst (λ (s : DeskState). IsLocked book base s p added shown) (sym err.0) i
+pub locked_after : PublishedStays → (book : Book) (base : List ℕ) (plan : Plan) (d e : DeskState) (p : PairState) (added shown : ℕ) (a b : PassState) (c : Call) (r : Result Reply CallFault)
+    → IsPlanned plan a.worker a.number c → IfOk r (λ (x : Reply). IsApplied d a c x e b) → OnErr r ((e ≡ d) × (b ≡ a)) → IsLocked book base plan d p added shown → IsLocked book base plan e p added shown
+locked_after stays book base plan d e p added shown a b c (Ok x) planned ok err i =
+    locked_more stays book base plan d e p added shown (entry_of a c x ∷ []) i ok.base ok.journal ok.headline_after (one_planned plan (entry_of a c x) planned)
+locked_after stays book base plan d e p added shown a b c (Err f) planned ok err i = subst (λ (s : DeskState). IsLocked book base plan s p added shown) (sym err.0) i
 
 -- what is gathered of the entries from a place on
 pub gathers : PublishedGrows → (old new : PairState) (journal rest : List Entry) (added more : ℕ) → rest ≡ drop added journal
@@ -79,9 +90,9 @@ gathers grows old new journal rest added more is made = record {
 }
 
 -- where none waits, nothing is gathered
-pub idle_gathers : PublishedGrows → (book : Book) (base : List ℕ) (d : DeskState) (p q : PairState) (journal : List Entry) (added shown gathered : ℕ)
-    → journal ≡ d.journal → IsLocked book base d p added shown → GathersOf p journal added q gathered → added ≤ gathered → NoneAccepted (drop shown d.journal) → q.all ≡ q.shown
-idle_gathers grows book base d p q journal added shown gathered same i gather low none =
+pub idle_gathers : PublishedGrows → (book : Book) (base : List ℕ) (plan : Plan) (d : DeskState) (p q : PairState) (journal : List Entry) (added shown gathered : ℕ)
+    → journal ≡ d.journal → IsLocked book base plan d p added shown → GathersOf p journal added q gathered → added ≤ gathered → NoneAccepted (drop shown d.journal) → q.all ≡ q.shown
+idle_gathers grows book base plan d p q journal added shown gathered same i gather low none =
     gather.all (volume_of d.base) (i.all_is ∙ ap (λ (l : List Entry). published (volume_of d.base) l added) (sym same))
     ∙ ap (λ (l : List Entry). published (volume_of d.base) l gathered) same
     ∙ published_idle grows (volume_of d.base) d.journal shown gathered (omega (arith, i.order.0, low)) none
@@ -89,15 +100,16 @@ idle_gathers grows book base d p q journal added shown gathered same i gather lo
     ∙ sym gather.shown
 
 -- the pair after both steps
-pub locked_published : (book : Book) (base : List ℕ) (d : DeskState) (p q r : PairState) (journal : List Entry) (added shown gathered result : ℕ)
-    → journal ≡ d.journal → IsLocked book base d p added shown → GathersOf p journal added q gathered → ShowsOf q gathered shown r result
-    → gathered ≤ length journal → result ≤ gathered → IsLocked book base d r gathered result
-locked_published book base d p q r journal added shown gathered result same i gather show low below =
+pub locked_published : (book : Book) (base : List ℕ) (plan : Plan) (d : DeskState) (p q r : PairState) (journal : List Entry) (added shown gathered result : ℕ)
+    → journal ≡ d.journal → IsLocked book base plan d p added shown → GathersOf p journal added q gathered → ShowsOf q gathered shown r result
+    → gathered ≤ length journal → result ≤ gathered → IsLocked book base plan d r gathered result
+locked_published book base plan d p q r journal added shown gathered result same i gather show low below =
     let all : q.all ≡ published (volume_of d.base) d.journal gathered =
     gather.all (volume_of d.base) (i.all_is ∙ ap (λ (l : List Entry). published (volume_of d.base) l added) (sym same)) ∙ ap (λ (l : List Entry). published (volume_of d.base) l gathered) same in
     record {
       base_is = i.base_is;
       headline = i.headline;
+      planned = i.planned;
       book_is = show.book ∙ gather.book ∙ i.book_is;
       all_is = show.all ∙ all;
       shown_is = show.shows (volume_of d.base) d.journal all (gather.shown ∙ i.shown_is);
@@ -105,9 +117,9 @@ locked_published book base d p q r journal added shown gathered result same i ga
     }
 
 -- what is told of the pair then
-pub told_published : (book : Book) (base : List ℕ) (d : DeskState) (p : PairState) (entries : List Entry) (added shown : ℕ)
-    → entries ≡ d.journal → IsLocked book base d p added shown
+pub told_published : (book : Book) (base : List ℕ) (plan : Plan) (d : DeskState) (p : PairState) (entries : List Entry) (added shown : ℕ)
+    → entries ≡ d.journal → IsLocked book base plan d p added shown
     → told (known p.book p.shown) shown (length entries) ≡ told (known book (published (volume_of base) d.journal shown)) shown (length d.journal)
-told_published book base d p entries added shown same i =
+told_published book base plan d p entries added shown same i =
     let list : p.shown ≡ published (volume_of base) d.journal shown = i.shown_is ∙ ap (λ (b : List ℕ). published (volume_of b) d.journal shown) i.base_is in
     λ k. told (known (i.book_is k) (list k)) shown (length (same k))

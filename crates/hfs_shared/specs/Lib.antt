@@ -7,6 +7,7 @@ pub mod Answers
 pub mod Writers
 pub mod Kinds
 pub mod Stages
+pub mod Plans
 pub mod Desks
 pub mod Faults
 pub mod Lockeds

@@ -6,6 +6,7 @@ use Rattle.hfs_model.specs.Volume.{Volume}
 use Rattle.hfs_check.specs.VolumeOf.{volume_of}
 use Rattle.hfs_shared.specs.Journals.{published, NoneAccepted}
 use Rattle.hfs_shared.specs.Pairs.{PairState}
+use Rattle.hfs_shared.specs.Plans.{Plan, ArePlanned}
 use Rattle.hfs_shared.specs.Desks.{DeskState, desk_state, IsHeadline}
 
 -- a desk, and how many entries of its journal the published list covers
@@ -23,11 +24,12 @@ locked_state d n = record { base = d.base; current = d.current; written = d.writ
 abbrev pub desk_of : LockedState → DeskState
 desk_of l = desk_state l.base l.current l.written l.journal l.workers
 
--- what holds whenever the lock is free, of a session with this base: the headline over it, and the published list covers no
--- more entries than there are
-pub record IsUnderLock (base : List ℕ) (l : LockedState) : Type 0 where
+-- what holds whenever the lock is free, of a session with this base and this plan: the headline over the base, each entry's call
+-- is the planned one, and the published list covers no more entries than there are
+pub record IsUnderLock (base : List ℕ) (plan : Plan) (l : LockedState) : Type 0 where
   pub base_is : l.base ≡ base
   pub headline : IsHeadline l.base l.current l.written l.journal
+  pub planned : ArePlanned plan l.journal
   pub within : l.shown ≤ length l.journal
 
 -- so many entries are all of them, or those that the published list covers already
@@ -38,11 +40,12 @@ CoversAllOrSame l n = (n ≡ length l.journal) ⊎ (n ≡ l.shown)
 abbrev pub KeepsUp : LockedState → ℕ → Type 0
 KeepsUp l n = NoneAccepted (drop l.shown l.journal) → n ≡ length l.journal
 
--- the headline holds over the session's base, and the pair has the published lists of the journal: the one that is published
--- covers so many entries, and the one with all that was added covers at least these
-pub record IsLocked (book : Book) (base : List ℕ) (d : DeskState) (p : PairState) (added shown : ℕ) : Type 0 where
+-- the headline holds over the session's base, each entry's call is the planned one, and the pair has the published lists of the
+-- journal: the one that is published covers so many entries, and the one with all that was added covers at least these
+pub record IsLocked (book : Book) (base : List ℕ) (plan : Plan) (d : DeskState) (p : PairState) (added shown : ℕ) : Type 0 where
   pub base_is : d.base ≡ base
   pub headline : IsHeadline d.base d.current d.written d.journal
+  pub planned : ArePlanned plan d.journal
   pub book_is : p.book ≡ book
   pub all_is : p.all ≡ published (volume_of d.base) d.journal added
   pub shown_is : p.shown ≡ published (volume_of d.base) d.journal shown

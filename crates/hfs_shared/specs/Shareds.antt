@@ -12,6 +12,7 @@ use Rattle.hfs_volume.specs.Serving.{IsOutcomeIn}
 use Rattle.hfs_shared.specs.Histories.{Known, known, opened}
 use Rattle.hfs_shared.specs.Journals.{IsLegal, published}
 use Rattle.hfs_shared.specs.Pairs.{PairState}
+use Rattle.hfs_shared.specs.Plans.{Plan, ArePlanned}
 use Rattle.hfs_shared.specs.Tolds.{ToldState, told}
 use Rattle.hfs_shared.specs.Desks.{DeskState, PassState, pass_state, entry_of, IsHeadline}
 
@@ -72,14 +73,15 @@ pub record IsToldOf (book : Book) (opening : Volume) (journal : List Entry) (t :
   pub tells : t ≡ told_of book opening journal t.shown
   pub within : t.shown ≤ length journal
 
--- one call, after these entries: its own is last in a legal journal over the base's volume, its reply is the one there, and
--- what is given is published of that journal
-pub record IsCall (book : Book) (base : List ℕ) (before : List Entry) (p : PassState) (c : Call) (r : Reply) (t : ToldState) (q : PassState) : Type 0 where
+-- one call, after these entries: its own is last in a legal journal over the base's volume, in which each entry's call is the
+-- planned one; its reply is the one there, and what is given is published of that journal
+pub record IsCall (book : Book) (base : List ℕ) (plan : Plan) (before : List Entry) (p : PassState) (c : Call) (r : Reply) (t : ToldState) (q : PassState) : Type 0 where
   pub pass : q ≡ pass_state p.worker (p.number + 1)
   pub legal : IsLegal (volume_of base) (before ++ entry_of p c r ∷ [])
+  pub planned : ArePlanned plan (before ++ entry_of p c r ∷ [])
   pub reply : IsReplyOf base (after (volume_of base) before) c r
   pub told_is : IsToldOf book (volume_of base) (before ++ entry_of p c r ∷ []) t
 
 -- one call after some entries
-abbrev pub IsSomeCall : Book → List ℕ → PassState → Call → Reply → ToldState → PassState → Type 0
-IsSomeCall book base p c r t q = (before : List Entry) × IsCall book base before p c r t q
+abbrev pub IsSomeCall : Book → List ℕ → Plan → PassState → Call → Reply → ToldState → PassState → Type 0
+IsSomeCall book base plan p c r t q = (before : List Entry) × IsCall book base plan before p c r t q

@@ -4,6 +4,7 @@ ghost use Rattle.hfs_check.specs.VolumeOf.{volume_of};
 ghost use Rattle.hfs_shared.specs.Desks.{IsApplied};
 ghost use Rattle.hfs_shared.specs.Faults.{IsCallFault};
 ghost use Rattle.hfs_shared.specs.Lockeds.{LockedState, desk_of, IsUnderLock, KeepsUp, CoversAllOrSame};
+ghost use Rattle.hfs_shared.specs.Plans.{IsPlanned};
 ghost use Rattle.hfs_shared.specs.Shareds.{IsToldOf};
 
 use crate::Told;
@@ -41,12 +42,14 @@ impl<'a, K: Session> Guard<'a, K> {
 
 impl<K: Session> Guard<'_, K> {
     /// Makes a call of a worker: adds one entry to the journal and one to the pass's number. `Stamp` if that number isn't its
-    /// worker's next one; this is checked before anything else. At a fault nothing has changed.
+    /// worker's next one; this is checked before anything else. At a fault nothing has changed. A session without a plan takes
+    /// any call.
     pub fn apply(&mut self, alloc: Global, pass: &mut Pass, call: &Call) -> Result<Reply, CallFault>
+        requires { IsPlanned K.plan pass.old.worker pass.old.number call.now }
         ensures ok { IfOk result (λ r.
             IsApplied (desk_of self.old) pass.old call.now r (desk_of self.new) pass.new) }
         ensures shown { self.new.shown ≡ self.old.shown }
-        ensures headline { IsUnderLock K.base self.new }
+        ensures headline { IsUnderLock K.base K.plan self.new }
         ensures err { OnErr result ((self.new ≡ self.old) × (pass.new ≡ pass.old)) }
         ensures fault { IfErr result (IsCallFault (desk_of self.old) pass.old) }
     {
@@ -60,7 +63,7 @@ impl<K: Session> Guard<'_, K> {
         ensures idle { KeepsUp self.old self.new.shown }
         ensures number { result.shown ≡ self.new.shown }
         ensures told { IsToldOf K.book (volume_of K.base) self.old.journal result }
-        ensures headline { IsUnderLock K.base self.new }
+        ensures headline { IsUnderLock K.base K.plan self.new }
     {
         self.inner.publish(rt)
     }
@@ -68,7 +71,7 @@ impl<K: Session> Guard<'_, K> {
     /// How many entries of the journal the published list covers. Takes no memory.
     pub fn shown(&self) -> u64
         ensures number { result ≡ self.now.shown }
-        ensures headline { IsUnderLock K.base self.now }
+        ensures headline { IsUnderLock K.base K.plan self.now }
     {
         self.inner.shown()
     }

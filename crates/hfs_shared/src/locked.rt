@@ -5,6 +5,7 @@ ghost use Rattle.hfs_shared.specs.Journals.{published, NoneAccepted};
 ghost use Rattle.hfs_shared.specs.Desks.{IsApplied, IsHeadline};
 ghost use Rattle.hfs_shared.specs.Faults.{IsCallFault};
 ghost use Rattle.hfs_shared.specs.Lockeds.{LockedState, locked_state, desk_of, IsUnderLock, KeepsUp, ShowsOf, GathersOf, CoversAllOrSame};
+ghost use Rattle.hfs_shared.specs.Plans.{IsPlanned};
 ghost use Rattle.hfs_shared.specs.Shareds.{told_of};
 
 use crate::desk::{CallFault, Desk};
@@ -36,7 +37,7 @@ impl<K: Session> Model for Locked<K> {
 
     ghost view = { λ l. locked_state l.desk l.shown };
 
-    ghost invariant = { λ l. IsLocked K.book K.base l.desk l.pair l.added l.shown };
+    ghost invariant = { λ l. IsLocked K.book K.base K.plan l.desk l.pair l.added l.shown };
 }
 
 impl<K: Session> Locked<K> {
@@ -62,10 +63,11 @@ impl<K: Session> Locked<K> {
     /// Makes a call of a worker, which adds one entry to the journal. `Stamp` if the pass doesn't have its worker's next number;
     /// this is checked before anything else.
     pub fn apply(&mut self, alloc: Global, pass: &mut Pass, call: &Call) -> Result<Reply, CallFault>
+        requires { IsPlanned K.plan pass.old.worker pass.old.number call.now }
         ensures ok { IfOk result (λ r.
             IsApplied (desk_of self.old) pass.old call.now r (desk_of self.new) pass.new) }
         ensures shown { self.new.shown ≡ self.old.shown }
-        ensures headline { IsUnderLock K.base self.new }
+        ensures headline { IsUnderLock K.base K.plan self.new }
         ensures err { OnErr result ((self.new ≡ self.old) × (pass.new ≡ pass.old)) }
         ensures fault { IfErr result (IsCallFault (desk_of self.old) pass.old) }
     {
@@ -75,7 +77,7 @@ impl<K: Session> Locked<K> {
     /// How many entries the published list covers.
     pub fn shown(&self) -> u64
         ensures number { result ≡ self.now.shown }
-        ensures headline { IsUnderLock K.base self.now }
+        ensures headline { IsUnderLock K.base K.plan self.now }
     {
         self.shown as u64
     }
@@ -87,7 +89,7 @@ impl<K: Session> Locked<K> {
         ensures idle { KeepsUp self.old self.new.shown }
         ensures told { result
             ≡ told_of K.book (volume_of K.base) self.old.journal self.new.shown }
-        ensures headline { IsUnderLock K.base self.new }
+        ensures headline { IsUnderLock K.base K.plan self.new }
     {
         let journal = self.desk.journal();
         self.added = gather(&mut self.pair, journal, self.added);

@@ -2,6 +2,7 @@
 ghost use Rattle.std.specs.Prelude.{◌≡◌, IfOk, OnErr, IfErr};
 ghost use Rattle.hfs_shared.specs.Closings.{IsClosedAs};
 ghost use Rattle.hfs_shared.specs.Faults.{IsFaultUnder};
+ghost use Rattle.hfs_shared.specs.Plans.{ArePlanned, IsPlanned};
 ghost use Rattle.hfs_shared.specs.Shareds.{IsSomeCall};
 
 use crate::closed::Closed;
@@ -49,8 +50,9 @@ impl<K: Session> Shared<K> {
         pass: &mut Pass,
         call: Call,
     ) -> Result<(Reply, Told), CallFault>
+        requires { IsPlanned K.plan pass.old.worker pass.old.number call }
         ensures ok { IfOk result (λ r.
-            IsSomeCall K.book K.base pass.old call r.0 r.1 pass.new) }
+            IsSomeCall K.book K.base K.plan pass.old call r.0 r.1 pass.new) }
         ensures err { OnErr result (pass.new ≡ pass.old) }
         ensures fault { IfErr result (IsFaultUnder pass.old.number) }
     {
@@ -71,6 +73,7 @@ impl<K: Session> Shared<K> {
     ) -> Result<Closed, (Shared<K>, Vec<Pass>)>
         requires { viewer.old.book ≡ K.book }
         ensures ok { IfOk result (λ c. IsClosedAs K.base c passes.items viewer.old viewer.new) }
+        ensures planned { IfOk result (λ c. ArePlanned K.plan c.journal.items) }
         ensures err { IfErr result (λ e. (e.1 ≡ passes) × (viewer.new ≡ viewer.old)) }
     {
         match self.into_locked().close(rt, passes, viewer) {

@@ -1,8 +1,9 @@
 //! Workers that run side by side.
 ghost use Rattle.std.specs.Prelude.{◌≡◌, ◌<◌, length, get_or, IfOk, OnErr, IfErr, IfSome, IfNone, OnSome};
 ghost use Rattle.hfs_shared.specs.Faults.{IsFaultUnder};
+ghost use Rattle.hfs_shared.specs.Plans.{AreNextPlanned, IsPlanned};
 ghost use Rattle.hfs_shared.specs.Shareds.{IsSomeCall};
-ghost use Rattle.hfs_shared.specs.Works.{IsMoreWork, IsDone, HaveTheirPasses, AreDone, AreDoneFrom};
+ghost use Rattle.hfs_shared.specs.Works.{IsMoreWork, IsDone, HaveTheirPasses, AreJobsPlanned, AreDone, AreDoneFrom};
 
 use crate::Told;
 use crate::desk::CallFault;
@@ -37,8 +38,9 @@ fn call_at<K: Session, R: Wait, G: Gate>(
     pass: &mut Pass,
     call: &Call,
 ) -> Result<(Reply, Told), CallFault>
+    requires { IsPlanned K.plan pass.old.worker pass.old.number call.now }
     ensures ok { IfOk result (λ r.
-        IsSomeCall K.book K.base pass.old call.now r.0 r.1 pass.new) }
+        IsSomeCall K.book K.base K.plan pass.old call.now r.0 r.1 pass.new) }
     ensures err { OnErr result (pass.new ≡ pass.old) }
     ensures fault { IfErr result (IsFaultUnder pass.old.number) }
 {
@@ -58,8 +60,9 @@ fn call_inside<K: Session, R: Wait, G: Gate>(
     pass: &mut Pass,
     call: &Call,
 ) -> Result<(Reply, Told), CallFault>
+    requires { IsPlanned K.plan pass.old.worker pass.old.number call.now }
     ensures ok { IfOk result (λ r.
-        IsSomeCall K.book K.base pass.old call.now r.0 r.1 pass.new) }
+        IsSomeCall K.book K.base K.plan pass.old call.now r.0 r.1 pass.new) }
     ensures err { OnErr result (pass.new ≡ pass.old) }
     ensures fault { IfErr result (IsFaultUnder pass.old.number) }
 {
@@ -81,7 +84,8 @@ fn one_more<K: Session, R: Wait, G: Gate>(
     call: &Call,
     replies: &mut Vec<(Reply, Told)>,
 ) -> Option<CallFault>
-    ensures none { IfNone result (IsMoreWork K.book K.base pass.old call.now pass.new
+    requires { IsPlanned K.plan pass.old.worker pass.old.number call.now }
+    ensures none { IfNone result (IsMoreWork K.book K.base K.plan pass.old call.now pass.new
         replies.old.items replies.new.items) }
     ensures some { OnSome result ((replies.new.items ≡ replies.old.items) × (pass.new ≡ pass.old)) }
     ensures fault { IfSome result (IsFaultUnder pass.old.number) }
@@ -107,7 +111,8 @@ fn work<K: Session, R: Wait, G: Gate>(
     calls: &Vec<Call>,
     done: &mut Done,
 )
-    ensures { IsDone K.book K.base done.old.pass calls.now.items done.new }
+    requires { AreNextPlanned K.plan done.old.pass.worker done.old.pass.number calls.now.items }
+    ensures { IsDone K.book K.base K.plan done.old.pass calls.now.items done.new }
 {
     let mut replies = Vec::new(alloc);
     let mut fault = None;
@@ -158,9 +163,10 @@ pub fn run_workers<K: Session + Send + Sync, R: Threads + Wait + Sync, G: Gate +
     gate: &G,
     jobs: Vec<(Pass, Vec<Call>)>,
 ) -> Result<Vec<Done>, RunFault>
+    requires { AreJobsPlanned K.plan (λ c. c.items) jobs.items }
     ensures many { IfOk result (λ v. length v.items ≡ length jobs.items) }
     ensures each { IfOk result (λ v.
-        AreDone K.book K.base (λ c. c.items) jobs.items v.items) }
+        AreDone K.book K.base K.plan (λ c. c.items) jobs.items v.items) }
     ensures err { IfErr result (λ f. f.jobs ≡ jobs) }
 {
     let Some(mut dones) = begin_all(alloc, &jobs) else {
@@ -171,6 +177,7 @@ pub fn run_workers<K: Session + Send + Sync, R: Threads + Wait + Sync, G: Gate +
 }
 
 // Does the jobs, each in a thread of its own.
+#[tactic(auto, using(crate::proofs::Working::begun_planned))]
 fn run_all<K: Session + Send + Sync, R: Threads + Wait + Sync, G: Gate + Sync>(
     shared: &Shared<K>,
     rt: &R,
@@ -180,14 +187,18 @@ fn run_all<K: Session + Send + Sync, R: Threads + Wait + Sync, G: Gate + Sync>(
     dones: &mut Vec<Done>,
 )
     requires many { length dones.old.items ≡ length jobs.now.items }
+    requires passes { HaveTheirPasses jobs.now.items dones.old.items }
+    requires planned { AreJobsPlanned K.plan (λ c. c.items) jobs.now.items }
     ensures many { length dones.new.items ≡ length jobs.now.items }
-    ensures each { AreDoneFrom K.book K.base (λ c. c.items) jobs.now.items
+    ensures each { AreDoneFrom K.book K.base K.plan (λ c. c.items) jobs.now.items
         dones.old.items dones.new.items }
 {
     let threads = jobs.len().max(1);
     let run = |i: usize, done: &mut Done|
-        requires { i < length jobs.now.items }
-        ensures { (j : _) → IsDone K.book K.base done.entry.now.pass
+        requires within { i < length jobs.now.items }
+        requires planned { (j : _) → AreNextPlanned K.plan done.now.pass.worker
+            done.now.pass.number (get_or jobs.now.items i j).1.items }
+        ensures { (j : _) → IsDone K.book K.base K.plan done.entry.now.pass
             (get_or jobs.entry.now.items i j).1.items done.exit.now }
     { work(shared, rt, alloc, gate, &jobs[i].1, done) };
     thread::for_each_mut(rt, dones.as_mut_slice(), threads, &run);

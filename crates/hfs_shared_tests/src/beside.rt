@@ -1,5 +1,5 @@
 //! A viewer that reads while a worker is held under the lock.
-ghost use Rattle.std.specs.Prelude.{◌≡◌};
+ghost use Rattle.std.specs.Prelude.{◌≡◌, None};
 ghost use Rattle.std.specs.Thread.{IsSync};
 
 use crate::meeting::{begun_jobs, run};
@@ -62,11 +62,14 @@ fn run_beside<K: Session + Send + Sync, R: Threads + Wait + Sync, G: Gate + Watc
     gate: &G,
     jobs: Vec<(Pass, Vec<Call>)>,
     mut viewer: Viewer,
-) -> Seen {
+) -> Seen
+    requires { K.plan ≡ None }
+{
     thread::join(
         rt,
         move || -> (usize, usize)
-            requires { IsSync R.row × IsSync K.row × IsSync G.row }
+            requires sync { IsSync R.row × IsSync K.row × IsSync G.row }
+            requires plan { K.plan ≡ None }
         { run(shared, rt, alloc, gate, jobs) },
         move || gate.watch(alloc, &mut viewer),
     )
@@ -80,7 +83,8 @@ fn see<K: Session + Send + Sync, R: Threads + Wait + Sync>(
     jobs: Vec<(Pass, Vec<Call>)>,
     viewer: Viewer,
 ) -> Seen
-    requires { (parts.book ≡ K.book) × (parts.base ≡ K.base) }
+    requires parts { (parts.book ≡ K.book) × (parts.base ≡ K.base) }
+    requires plan { K.plan ≡ None }
 {
     let shared = parts.share::<K>();
     run_beside(&shared, rt, alloc, gate, jobs, viewer)

@@ -1,5 +1,5 @@
 //! Closing a shared volume, and sharing it again.
-ghost use Rattle.std.specs.Prelude.{◌≡◌};
+ghost use Rattle.std.specs.Prelude.{◌≡◌, None};
 
 use crate::sharing::{begun, begun_new, closed, lists, make_file};
 use hfs_shared::{Closed, Parts, Pass, Session, Shared, Viewer};
@@ -16,7 +16,9 @@ fn make_files<K: Session>(
     shared: &Shared<K>,
     pass: &mut Pass,
     letters: &[u8],
-) {
+)
+    requires { K.plan ≡ None }
+{
     for letter in letters {
         let _told = make_file(rt, alloc, shared, pass, &[*letter]);
     }
@@ -29,7 +31,9 @@ fn make_all<K: Session>(
     shared: &Shared<K>,
     passes: &mut Vec<Pass>,
     letters: &[u8],
-) {
+)
+    requires { K.plan ≡ None }
+{
     for pass in passes {
         make_files(rt, alloc, shared, pass, letters);
     }
@@ -46,6 +50,7 @@ fn closed_after<K: Session, R: Wait>(
 ) -> Option<Closed>
     requires parts { (parts.book ≡ K.book) × (parts.base ≡ K.base) }
     requires viewer { viewer.book ≡ K.book }
+    requires plan { K.plan ≡ None }
 {
     let shared = parts.share::<K>();
     make_all(rt, alloc, &shared, &mut passes, letters);

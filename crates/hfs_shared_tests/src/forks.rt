@@ -1,5 +1,5 @@
 //! A fork that a worker writes while a viewer reads it, and what closing returns.
-ghost use Rattle.std.specs.Prelude.{◌≡◌, IfSome};
+ghost use Rattle.std.specs.Prelude.{◌≡◌, IfSome, None};
 
 use crate::sharing::{begun_new, closed, make, make_file};
 use hfs_model::{Call, Fork, Reply, SharedBytes, Value};
@@ -28,6 +28,7 @@ fn make_hello<K: Session>(
     shared: &Shared<K>,
     pass: &mut Pass,
 ) -> Option<Told>
+    requires { K.plan ≡ None }
     ensures { IfSome result (λ t. t.book ≡ K.book) }
 {
     make_file(rt, alloc, shared, pass, b"a")?;
@@ -37,13 +38,16 @@ fn make_hello<K: Session>(
 }
 
 /// Writes bytes into the file under the lock. Whether the answer is 0.
+#[tactic(auto, using(hfs_shared::proofs::Unplanned::any_planned))]
 fn writes<K: Session>(
     alloc: Global,
     guard: &mut Guard<'_, K>,
     pass: &mut Pass,
     offset: u32,
     bytes: &[u8],
-) -> bool {
+) -> bool
+    requires { K.plan ≡ None }
+{
     let Ok(call) = writing(alloc, offset, bytes) else {
         return false;
     };
@@ -54,7 +58,9 @@ fn writes<K: Session>(
 }
 
 /// Writes a byte over the second one a hundred times. Whether each answer is 0.
-fn writes_more<K: Session>(alloc: Global, guard: &mut Guard<'_, K>, pass: &mut Pass) -> bool {
+fn writes_more<K: Session>(alloc: Global, guard: &mut Guard<'_, K>, pass: &mut Pass) -> bool
+    requires { K.plan ≡ None }
+{
     let mut are_made = true;
     for _turn in 0..100 {
         are_made = writes(alloc, guard, pass, 1, b"y") && are_made;
@@ -98,7 +104,8 @@ fn reads_beside<K: Session>(
     pass: &mut Pass,
     viewer: &mut Viewer,
 ) -> bool
-    requires { viewer.old.book ≡ K.book }
+    requires viewer { viewer.old.book ≡ K.book }
+    requires plan { K.plan ≡ None }
     ensures { viewer.new.book ≡ K.book }
 {
     let mut guard = shared.lock(rt);
@@ -117,7 +124,8 @@ fn reads_all<K: Session>(
     passes: &mut Vec<Pass>,
     viewer: &mut Viewer,
 ) -> bool
-    requires { viewer.old.book ≡ K.book }
+    requires viewer { viewer.old.book ≡ K.book }
+    requires plan { K.plan ≡ None }
     ensures { viewer.new.book ≡ K.book }
 {
     let Some(pass) = passes.first_mut() else {
@@ -140,6 +148,7 @@ fn read_and_closed<K: Session, R: Wait>(
 ) -> (bool, Option<Closed>)
     requires parts { (parts.book ≡ K.book) × (parts.base ≡ K.base) }
     requires viewer { viewer.book ≡ K.book }
+    requires plan { K.plan ≡ None }
 {
     let shared = parts.share::<K>();
     let are_read = reads_all(rt, alloc, &shared, &mut passes, &mut viewer);

@@ -1,5 +1,5 @@
 //! Workers that run side by side.
-ghost use Rattle.std.specs.Prelude.{◌≡◌, ◌<◌, ◌≤◌};
+ghost use Rattle.std.specs.Prelude.{◌≡◌, ◌<◌, ◌≤◌, None};
 
 use crate::sharing::{begun_new, create};
 use crate::waiting::waits_for;
@@ -92,13 +92,16 @@ fn counted(dones: &Vec<Done>) -> (usize, usize) {
 }
 
 /// Runs jobs, and returns how many replies there are, and how many faults.
+#[tactic(auto, using(hfs_shared::proofs::Unplanned::any_jobs_planned))]
 pub fn run<K: Session + Send + Sync, R: Threads + Wait + Sync, G: Gate + Sync>(
     shared: &Shared<K>,
     rt: &R,
     alloc: Global,
     gate: &G,
     jobs: Vec<(Pass, Vec<Call>)>,
-) -> (usize, usize) {
+) -> (usize, usize)
+    requires { K.plan ≡ None }
+{
     match run_workers(shared, rt, alloc, gate, jobs) {
         Ok(dones) => counted(&dones),
         Err(_fault) => (0, 0),
@@ -126,7 +129,8 @@ fn run_parts<K: Session + Send + Sync, R: Threads + Wait + Sync, G: Gate + Sync>
     jobs: Vec<(Pass, Vec<Call>)>,
     gate: &G,
 ) -> (usize, usize)
-    requires { (parts.book ≡ K.book) × (parts.base ≡ K.base) }
+    requires parts { (parts.book ≡ K.book) × (parts.base ≡ K.base) }
+    requires plan { K.plan ≡ None }
 {
     let shared = parts.share::<K>();
     run(&shared, rt, alloc, gate, jobs)

@@ -1,5 +1,5 @@
 //! Passes that are refused.
-ghost use Rattle.std.specs.Prelude.{◌≡◌};
+ghost use Rattle.std.specs.Prelude.{◌≡◌, None};
 
 use crate::sharing::{applied, begun_one, make_file, new_volume};
 use hfs_shared::{CallFault, Parts, Pass, Session, Shared};
@@ -24,7 +24,9 @@ fn refused_stamp<K: Session>(
     alloc: Global,
     shared: &Shared<K>,
     mut pass: Pass,
-) -> Stamp {
+) -> Stamp
+    requires { K.plan ≡ None }
+{
     let mut guard = shared.lock(rt);
     match applied(alloc, &mut guard, &mut pass, b"b") {
         Ok(()) => None,
@@ -39,7 +41,8 @@ fn refused<K: Session, R: Wait>(
     parts: Parts,
     mut pass: Pass,
 ) -> (Stamp, Stamp)
-    requires { (parts.book ≡ K.book) × (parts.base ≡ K.base) }
+    requires parts { (parts.book ≡ K.book) × (parts.base ≡ K.base) }
+    requires plan { K.plan ≡ None }
 {
     let shared = parts.share::<K>();
     let _told = make_file(rt, alloc, &shared, &mut pass, b"a");

@@ -1,5 +1,5 @@
 //! A small volume that is shared, short forms of the calls on it, and what viewers are asked.
-ghost use Rattle.std.specs.Prelude.{◌≡◌, ◌<◌, ◌≤◌, All, IfOk, IfSome};
+ghost use Rattle.std.specs.Prelude.{◌≡◌, ◌<◌, ◌≤◌, All, IfOk, IfSome, None};
 
 use hfs_fixtures::{FixtureFault, new_image};
 use hfs_model::{Call, Info, Reply, SharedBytes, Value};
@@ -89,6 +89,7 @@ pub fn create(alloc: Global, name: &[u8]) -> Result<Call, AllocError> {
 }
 
 /// Makes a call, and returns its reply and the list that is published then; None if it is not answered.
+#[tactic(auto, using(hfs_shared::proofs::Unplanned::any_planned))]
 pub fn make<K: Session>(
     rt: &impl Wait,
     alloc: Global,
@@ -96,6 +97,7 @@ pub fn make<K: Session>(
     pass: &mut Pass,
     call: Call,
 ) -> Option<(Reply, Told)>
+    requires { K.plan ≡ None }
     ensures { IfSome result (λ r. r.1.book ≡ K.book) }
 {
     match shared.call(rt, alloc, pass, call) {
@@ -112,6 +114,7 @@ pub fn make_file<K: Session>(
     pass: &mut Pass,
     name: &[u8],
 ) -> Option<Told>
+    requires { K.plan ≡ None }
     ensures { IfSome result (λ t. t.book ≡ K.book) }
 {
     let call = create(alloc, name).ok()?;
@@ -120,12 +123,15 @@ pub fn make_file<K: Session>(
 }
 
 /// Makes a file in the root under the lock: whether it is answered, and if not, why.
+#[tactic(auto, using(hfs_shared::proofs::Unplanned::any_planned))]
 pub fn applied<K: Session>(
     alloc: Global,
     guard: &mut Guard<'_, K>,
     pass: &mut Pass,
     name: &[u8],
-) -> Result<(), CallFault> {
+) -> Result<(), CallFault>
+    requires { K.plan ≡ None }
+{
     let Ok(call) = create(alloc, name) else {
         return Err(CallFault::Memory);
     };

@@ -1,5 +1,5 @@
 //! What a viewer sees of the lists that it learns.
-ghost use Rattle.std.specs.Prelude.{◌≡◌};
+ghost use Rattle.std.specs.Prelude.{◌≡◌, None};
 
 use crate::closing::counts_of;
 use crate::sharing::{applied, begun_new, begun_one, closed, lists, make_file, new_volume};
@@ -18,7 +18,8 @@ fn learns_both<K: Session>(
     pass: &mut Pass,
     viewer: &mut Viewer,
 ) -> bool
-    requires { viewer.old.book ≡ K.book }
+    requires viewer { viewer.old.book ≡ K.book }
+    requires plan { K.plan ≡ None }
     ensures { viewer.new.book ≡ K.book }
 {
     let Some(first) = make_file(rt, alloc, shared, pass, b"a") else {
@@ -40,7 +41,8 @@ fn learns_by_first<K: Session>(
     passes: &mut Vec<Pass>,
     viewer: &mut Viewer,
 ) -> bool
-    requires { viewer.old.book ≡ K.book }
+    requires viewer { viewer.old.book ≡ K.book }
+    requires plan { K.plan ≡ None }
     ensures { viewer.new.book ≡ K.book }
 {
     match passes.first_mut() {
@@ -59,6 +61,7 @@ fn learned<K: Session, R: Wait>(
 ) -> (bool, Option<Closed>)
     requires parts { (parts.book ≡ K.book) × (parts.base ≡ K.base) }
     requires viewer { viewer.book ≡ K.book }
+    requires plan { K.plan ≡ None }
 {
     let shared = parts.share::<K>();
     let learns = learns_by_first(rt, alloc, &shared, &mut passes, &mut viewer);
@@ -105,7 +108,8 @@ fn shown_under_lock<K: Session>(
     pass: &mut Pass,
     viewer: &mut Viewer,
 ) -> ([u64; 4], bool)
-    requires { viewer.old.book ≡ K.book }
+    requires viewer { viewer.old.book ≡ K.book }
+    requires plan { K.plan ≡ None }
 {
     let mut guard = shared.lock(rt);
     let is_made = applied(alloc, &mut guard, pass, b"a").is_ok();
@@ -129,6 +133,7 @@ fn shown_by_publish<K: Session, R: Wait>(
 ) -> ([u64; 4], bool)
     requires parts { (parts.book ≡ K.book) × (parts.base ≡ K.base) }
     requires viewer { viewer.book ≡ K.book }
+    requires plan { K.plan ≡ None }
 {
     let shared = parts.share::<K>();
     shown_under_lock(rt, alloc, &shared, &mut pass, &mut viewer)

@@ -5,6 +5,7 @@ ghost use Rattle.hfs_check.specs.VolumeOf.{volume_of};
 ghost use Rattle.hfs_shared.specs.Journals.{published};
 ghost use Rattle.hfs_shared.specs.Closings.{AreAllPasses, AreTheirPasses, GivesAll, HasNoOthers, IsClosedAs, IsWhether};
 ghost use Rattle.hfs_shared.specs.Lockeds.{IsUnderLock};
+ghost use Rattle.hfs_shared.specs.Plans.{ArePlanned};
 
 use super::Locked;
 use crate::Viewer;
@@ -28,6 +29,7 @@ impl<K: Session> Locked<K> {
             (λ _. AreTheirPasses passes.items self → ⊥) }
         ensures ok { IfOk result (λ c. IsClosedAs K.base c passes.items viewer.old viewer.new) }
         ensures all { IfOk result (λ c. GivesAll self c) }
+        ensures planned { IfOk result (λ c. ArePlanned K.plan c.journal.items) }
         ensures err { IfErr result (λ e.
             (e.0 ≡ self) × (e.1 ≡ passes) × (viewer.new ≡ viewer.old)) }
     {
@@ -63,7 +65,7 @@ impl<K: Session> Locked<K> {
         ensures written { result.volume.written ≡ self.written }
         ensures journal { result.journal.items ≡ self.journal }
         ensures shown { result.shown ≡ self.shown }
-        ensures headline { IsUnderLock K.base self }
+        ensures headline { IsUnderLock K.base K.plan self }
         ensures others { HasNoOthers self.workers self.journal }
     {
         let Locked {

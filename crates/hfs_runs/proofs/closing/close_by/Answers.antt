@@ -22,5 +22,6 @@ returns-in-Ok-clause-ok g c =
       before = before;
       afterwards = afterwards;
       closed = subst (λ (ps : List PassState). IsClosed g.K.Session.base closed.volume closed.journal.items closed.shown ps before afterwards) c.in_ok-passes.ensures.passes c.in-Ok.ensures.ok;
+      planned = c.in-Ok.ensures.planned;
       learned = subst (λ (ds : List Done). OfEach (AllBegin before.list) ds) c.deref.ensures.value c.learn_all.ensures.told;
     }

@@ -14,7 +14,7 @@ use Rattle.hfs_runs.specs.Answers.{answers_text, is_whole, kept_replies, replies
 use Rattle.hfs_runs.specs.Asking.{AreNumbered}
 use Rattle.hfs_runs.specs.Tellings.{AreWhole, OfEach}
 use Rattle.hfs_runs.proofs.Small.{viewers_within}
-use Rattle.hfs_runs.proofs.Working.{AreJobs, AreDone, AreViewings, AreViewed, first_book, told_of}
+use Rattle.hfs_runs.proofs.Working.{jobs_planned, AreJobs, AreDone, AreViewings, AreViewed, first_book, told_of}
 use Rattle.hfs_runs.proofs.Reasons.{ok_is}
 use Rattle.hfs_runs.proofs.OneRun.{begun, ran}
 use Rattle.hfs_shared.proofs.PublishedLawsProved.{published_is_after}
@@ -22,6 +22,12 @@ use Rattle.hfs_runs.proofs.running.run_shared.Goals as goal
 
 pub viewings_of-requires : goal.viewings_of-requires
 viewings_of-requires g c = omega (arith, c.requires.started.many, (viewers_within c.args.script c.requires.small).1)
+
+pub run_beside-dones-requires : goal.run_beside-dones-requires
+run_beside-dones-requires g c =
+    let begins : AreJobs (λ (calls : Vec Call Global). calls.items) c.args.script (workers c.args.script) c.args.passes.items c.in_ok-jobs.jobs.items =
+    record { first = c.requires.started.passes_are; many = c.in_ok-jobs.ensures.many; passes_are = c.in_ok-jobs.ensures.passes; calls_are = c.in_ok-jobs.ensures.calls } in
+    jobs_planned (λ (calls : Vec Call Global). calls.items) c.args.script (workers c.args.script) c.args.passes.items c.in_ok-jobs.jobs.items g.K.Session.plan begins c.requires.planned
 
 pub close-requires-clause-some : goal.close-requires-clause-some
 close-requires-clause-some g c =
@@ -40,12 +46,12 @@ close-requires-clause-book g c =
 
 pub close-requires-clause-told : goal.close-requires-clause-told
 close-requires-clause-told g c =
-    let done : AreDone (λ (calls : Vec Call Global). calls.items) g.K.Session.book g.K.Session.base c.in_ok-jobs.jobs.items c.in-Ok.dones.items =
+    let done : AreDone (λ (calls : Vec Call Global). calls.items) g.K.Session.book g.K.Session.base g.K.Session.plan c.in_ok-jobs.jobs.items c.in-Ok.dones.items =
     record {
       many = ok_is c.run_beside-dones.result.0 c.in-Ok.dones _ c.in-Ok.is c.run_beside-dones.ensures.dones;
       each = ok_is c.run_beside-dones.result.0 c.in-Ok.dones _ c.in-Ok.is c.run_beside-dones.ensures.done;
     } in
-    told_of (λ (calls : Vec Call Global). calls.items) g.K.Session.book g.K.Session.base c.in_ok-jobs.jobs.items c.in-Ok.dones.items done
+    told_of (λ (calls : Vec Call Global). calls.items) g.K.Session.book g.K.Session.base g.K.Session.plan c.in_ok-jobs.jobs.items c.in-Ok.dones.items done
 
 pub returns-clause-ok : goal.returns-clause-ok
 returns-clause-ok g c =
@@ -59,7 +65,7 @@ returns-clause-ok g c =
     let viewed : AreViewed c.in_ok-viewings.viewings.items c.run_beside-dones.result.1.items = record { many = c.run_beside-dones.ensures.viewings; each = c.run_beside-dones.ensures.viewed } in
     let begins : AreJobs (λ (calls : Vec Call Global). calls.items) script (workers script) c.args.passes.items c.in_ok-jobs.jobs.items =
     record { first = c.requires.started.passes_are; many = c.in_ok-jobs.ensures.many; passes_are = c.in_ok-jobs.ensures.passes; calls_are = c.in_ok-jobs.ensures.calls } in
-    let done : AreDone (λ (calls : Vec Call Global). calls.items) book g.K.Session.base c.in_ok-jobs.jobs.items c.in-Ok.dones.items =
+    let done : AreDone (λ (calls : Vec Call Global). calls.items) book g.K.Session.base g.K.Session.plan c.in_ok-jobs.jobs.items c.in-Ok.dones.items =
     record {
       many = ok_is c.run_beside-dones.result.0 c.in-Ok.dones _ c.in-Ok.is c.run_beside-dones.ensures.dones;
       each = ok_is c.run_beside-dones.result.0 c.in-Ok.dones _ c.in-Ok.is c.run_beside-dones.ensures.done;
@@ -72,5 +78,5 @@ returns-clause-ok g c =
     let shown : IsWhether c.are_all_whole-shown.result (OfEach AreWhole c.in-Ok.dones.items) =
     subst (λ (ds : List Done). IsWhether c.are_all_whole-shown.result (OfEach AreWhole ds)) c.deref.ensures.value c.are_all_whole-shown.ensures in
     ran (λ (calls : Vec Call Global). calls.items) book g.K.Session.base script c.in_ok-volume.volume (answers_text (kept_replies kept) asked) (is_whole (kept_replies kept) asked) c.are_all_whole-shown.result kept.workers.items asked c.args.passes.items
-    c.in_ok-jobs.jobs.items c.in-Ok.dones.items c.in_ok-viewings.viewings.items c.run_beside-dones.result.1.items numbered begins done views viewed
-    (ap (λ (replies : Caller → List Reply). answers_text replies asked) same) (ap (λ (replies : Caller → List Reply). is_whole replies asked) same) published_is_after shown c.in_ok-volume.ensures.told c.in_ok-volume.ensures.ok
+    g.K.Session.plan c.in_ok-jobs.jobs.items c.in-Ok.dones.items c.in_ok-viewings.viewings.items c.run_beside-dones.result.1.items numbered begins done views viewed
+    (ap (λ (replies : Caller → List Reply). answers_text replies asked) same) (ap (λ (replies : Caller → List Reply). is_whole replies asked) same) published_is_after shown c.in_ok-volume.ensures.told c.requires.planned c.in_ok-volume.ensures.ok

@@ -8,7 +8,8 @@ use Rattle.hfs_shared.specs.Tolds.{ToldState}
 use Rattle.hfs_shared.specs.declared.desk.CallFault.{CallFault}
 use Rattle.hfs_shared.specs.Desks.{PassState}
 use Rattle.hfs_shared.specs.Faults.{IsFaultUnder}
-use Rattle.hfs_shared.specs.Works.{IsWork}
+use Rattle.hfs_shared.specs.Plans.{IsPlanned}
+use Rattle.hfs_shared.specs.Works.{later, IsWork}
 use Rattle.hfs_shared.proofs.Working.{work_more}
 use Rattle.hfs_shared.proofs.workers.work.Goals.{else-loop-call-test, then-loop-call-test+then-is_some}
 use Rattle.hfs_shared.proofs.workers.work.Goals as goal
@@ -29,6 +30,19 @@ of_none : {A : Type 0} (P : A → Type 0) (o : Option A) → o ≡ None → IfSo
 of_none P None e = tt
 of_none P (Some x) e = absurd (cc e)
 
+-- the next call is the planned one
+pub one_more-fault-requires : goal.one_more-fault-requires
+one_more-fault-requires g c =
+    let i = c.loop-call.invariant in
+    let at = c.loop-call.call-index in
+    let items = c.deref-call-items.ensures.value in
+    let call = c.call-item.result in
+    let p = c.args.done.now.pass in
+    let below : at < length c.args.calls.now.items = omega (arith, ap length items) in
+    let pass : later p at ≡ c.loop-call.done.pass = sym (i.0.pass ∙ ap (later p) i.1) in
+    let same : get_or c.args.calls.now.items at call ≡ call = ap (λ (l : List Call). get_or l at call) (sym items) ∙ sym c.call-item.is in
+    subst (λ (y : PassState × Call). IsPlanned g.K.Session.plan y.0.worker y.0.number y.1) (λ j. (pass j, same j)) (c.requires at call below)
+
 pub loop-call-preserved : goal.loop-call-preserved
 loop-call-preserved g c =
     let i = c.loop-call.invariant in
@@ -38,7 +52,7 @@ loop-call-preserved g c =
     let call = c.call-item.result in
     let at = c.loop-call.call-index in
     let below : at < length c.args.calls.now.items = omega (arith, ap length items) in (
-      work_more g.K.Session.book g.K.Session.base c.args.done.now.pass c.args.calls.now.items c.loop-call.done.pass c.one_more-fault.new.pass c.loop-call.replies.items c.one_more-fault.new.replies.items
+      work_more g.K.Session.book g.K.Session.base g.K.Session.plan c.args.done.now.pass c.args.calls.now.items c.loop-call.done.pass c.one_more-fault.new.pass c.loop-call.replies.items c.one_more-fault.new.replies.items
           call i.0 (omega (arith, i.1))
           (λ d. ap (λ (n : ℕ). get_or c.args.calls.now.items n d) i.1 ∙ get_or_default c.args.calls.now.items at d call below ∙ ap (λ (l : List Call). get_or l at call) (sym items) ∙ sym c.call-item.is)
           more,
@@ -51,7 +65,7 @@ returns g c =
     let i = c.loop-call.invariant in
     let calls = c.args.calls.now.items in
     let end = c.loop-call-test in
-    let Work : PassState → List (Reply × ToldState) → Type 0 = λ q replies. IsWork g.K.Session.book g.K.Session.base c.args.done.now.pass calls q replies in
+    let Work : PassState → List (Reply × ToldState) → Type 0 = λ q replies. IsWork g.K.Session.book g.K.Session.base g.K.Session.plan c.args.done.now.pass calls q replies in
     let work : Work end.done.pass end.replies.items =
     elim end.branch as (λ _. Work end.done.pass end.replies.items) [
       | else-loop-call-test w ↦

@@ -5,6 +5,7 @@ use Rattle.hfs_model.specs.declared.journal.Entry.{Entry}
 use Rattle.hfs_model.specs.Runs.{after}
 use Rattle.hfs_shared.specs.Journals.{IsLegal, published}
 use Rattle.hfs_shared.specs.Closings.{AreAllPasses, HasNoOthers}
+use Rattle.hfs_shared.specs.Plans.{ArePlanned}
 use Rattle.hfs_shared.specs.Stages.{stage, HaveMadeOf}
 use Rattle.hfs_shared.proofs.locked.Locked.close.Goals as goal
 
@@ -27,3 +28,6 @@ returns-clause-ok g c =
       within = subst (λ (y : ℕ × List Entry). y.0 ≤ length y.1) (λ i. (sym e.shown i, sym e.journal i)) e.headline.within;
       begins = c.teach.ensures.begins;
     }
+
+pub returns-clause-planned : goal.returns-clause-planned
+returns-clause-planned g c = subst (ArePlanned g.K.Session.plan) (sym c.end.ensures.journal) c.end.ensures.headline.planned

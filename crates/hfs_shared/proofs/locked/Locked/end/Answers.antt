@@ -10,4 +10,4 @@ returns-clause-others g c = subst (λ (s : LockedState). HasNoOthers s.workers s
 pub returns-clause-headline : goal.returns-clause-headline
 returns-clause-headline g c =
     let l = c.self.inside in
-    subst (λ (s : LockedState). IsUnderLock g.K.Session.base s) c.self.view_is (under_lock g.K.Session.book g.K.Session.base l.desk l.pair l.added l.shown c.self.invariant)
+    subst (λ (s : LockedState). IsUnderLock g.K.Session.base g.K.Session.plan s) c.self.view_is (under_lock g.K.Session.book g.K.Session.base g.K.Session.plan l.desk l.pair l.added l.shown c.self.invariant)

@@ -16,7 +16,7 @@ returns-clause-idle g c = λ (none : NoneAccepted (drop c.args.self.now.shown c.
     let still : NoneAccepted (drop l.shown l.desk.journal) = subst (λ (s : LockedState). NoneAccepted (drop s.shown s.journal)) (sym c.self.view_is) none in
     let later : NoneAccepted (drop l.added l.desk.journal) = none_later l.desk.journal l.shown l.added c.self.invariant.order.0 still in
     let gathered = c.gather-self-inside.ensures.idle (subst (λ (es : List Entry). NoneAccepted (drop l.added es)) (sym entries) later) in
-    let same = idle_gathers published_grows g.K.Session.book g.K.Session.base l.desk l.pair c.gather-self-inside.new.pair c.journal-journal.result.now l.added l.shown c.gather-self-inside.result
+    let same = idle_gathers published_grows g.K.Session.book g.K.Session.base g.K.Session.plan l.desk l.pair c.gather-self-inside.new.pair c.journal-journal.result.now l.added l.shown c.gather-self-inside.result
     entries c.self.invariant c.gather-self-inside.ensures.lists c.gather-self-inside.ensures.order.0 still in
     c.show-self-inside.ensures.idle same gathered ∙ ap (λ (es : List Entry). length es) entries ∙ ap (λ (s : LockedState). length s.journal) c.self.view_is
 
@@ -25,7 +25,7 @@ invariant_of-self g c =
     let l = c.self.inside in
     let i = c.self.invariant in
     let order = c.gather-self-inside.ensures.order in
-    locked_published g.K.Session.book g.K.Session.base l.desk l.pair c.gather-self-inside.new.pair c.show-self-inside.new.pair c.journal-journal.result.now l.added l.shown c.gather-self-inside.result c.show-self-inside.result
+    locked_published g.K.Session.book g.K.Session.base g.K.Session.plan l.desk l.pair c.gather-self-inside.new.pair c.show-self-inside.new.pair c.journal-journal.result.now l.added l.shown c.gather-self-inside.result c.show-self-inside.result
     c.journal-journal.ensures.entries i c.gather-self-inside.ensures.lists c.show-self-inside.ensures.lists order.1
     (⊎_elim (λ t. omega (arith, t.0, t.1)) (λ e. omega (arith, e, i.order.0, order.0)) c.show-self-inside.ensures.shown)
 
@@ -35,18 +35,18 @@ returns-clause-told g c =
     let i = c.self.invariant in
     let order = c.gather-self-inside.ensures.order in
     let entries = c.journal-journal.ensures.entries in
-    let published_then = locked_published g.K.Session.book g.K.Session.base l.desk l.pair c.gather-self-inside.new.pair c.show-self-inside.new.pair c.journal-journal.result.now l.added l.shown c.gather-self-inside.result c.show-self-inside.result
+    let published_then = locked_published g.K.Session.book g.K.Session.base g.K.Session.plan l.desk l.pair c.gather-self-inside.new.pair c.show-self-inside.new.pair c.journal-journal.result.now l.added l.shown c.gather-self-inside.result c.show-self-inside.result
     entries i c.gather-self-inside.ensures.lists c.show-self-inside.ensures.lists order.1
     (⊎_elim (λ t. omega (arith, t.0, t.1)) (λ e. omega (arith, e, i.order.0, order.0)) c.show-self-inside.ensures.shown) in
     subst (λ (s : LockedState). c.told.result ≡ told (known g.K.Session.book (published (volume_of g.K.Session.base) s.journal c.show-self-inside.result)) c.show-self-inside.result (length s.journal)) c.self.view_is
-    (c.told.ensures ∙ told_published g.K.Session.book g.K.Session.base l.desk c.show-self-inside.new.pair c.journal-journal.result.now c.gather-self-inside.result c.show-self-inside.result entries published_then)
+    (c.told.ensures ∙ told_published g.K.Session.book g.K.Session.base g.K.Session.plan l.desk c.show-self-inside.new.pair c.journal-journal.result.now c.gather-self-inside.result c.show-self-inside.result entries published_then)
 
 pub returns-clause-headline : goal.returns-clause-headline
 returns-clause-headline g c =
     let l = c.self.inside in
     let i = c.self.invariant in
     let order = c.gather-self-inside.ensures.order in
-    under_lock g.K.Session.book g.K.Session.base l.desk c.show-self-inside.new.pair c.gather-self-inside.result c.show-self-inside.result
-    (locked_published g.K.Session.book g.K.Session.base l.desk l.pair c.gather-self-inside.new.pair c.show-self-inside.new.pair c.journal-journal.result.now l.added l.shown c.gather-self-inside.result c.show-self-inside.result
+    under_lock g.K.Session.book g.K.Session.base g.K.Session.plan l.desk c.show-self-inside.new.pair c.gather-self-inside.result c.show-self-inside.result
+    (locked_published g.K.Session.book g.K.Session.base g.K.Session.plan l.desk l.pair c.gather-self-inside.new.pair c.show-self-inside.new.pair c.journal-journal.result.now l.added l.shown c.gather-self-inside.result c.show-self-inside.result
     c.journal-journal.ensures.entries i c.gather-self-inside.ensures.lists c.show-self-inside.ensures.lists order.1
     (⊎_elim (λ t. omega (arith, t.0, t.1)) (λ e. omega (arith, e, i.order.0, order.0)) c.show-self-inside.ensures.shown))
