@@ -45,9 +45,10 @@ module _ (opening : Volume) (lines : List ScriptLine) (worker : ℕ) where
           let number : e.stamp - 1 ≡ n = omega (arith, legal.stamped, ap (λ (w : ℕ). made_by w before) same) in
           let at : slice_get mine n ≡ Some e.call = subst (λ (y : ℕ × ℕ). slice_get (calls_of (Worker y.0) lines) y.1 ≡ Some e.call) (λ i. (same i, number i)) planned in
           let below : n < length mine = slice_get_within mine n e.call at in
+          let next : suc n ≡ made_by worker (before ++ e ∷ []) = omega (arith, made_own worker before e same) in
           one-more before e ∙ (λ i. first i ++ map (λ (x : Entry). x.call) (cond (is i) (e ∷ []) []))
           ∙ ap (λ (c : Call). take n mine ++ c ∷ []) (sym (get_or_from_slice_get mine n e.call e.call at)) ∙ sym (take-suc mine n e.call below)
-          ∙ ap (λ (k : ℕ). take k mine) (omega (arith, made_own worker before e same))
+          ∙ ap (λ (k : ℕ). take k mine) next
       by false is =
           one-more before e ∙ (λ i. first i ++ map (λ (x : Entry). x.call) (cond (is i) (e ∷ []) [])) ∙ append-nil (take (made_by worker before) mine)
           ∙ ap (λ (k : ℕ). take k mine) (sym (made_same worker before e (eqb-false e.worker worker is)))

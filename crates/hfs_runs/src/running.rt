@@ -86,7 +86,7 @@ fn run_beside<K: Session + Send + Sync, R: Threads + Wait + Sync, G: Gate + Sync
     jobs: Vec<(Pass, Vec<Call>)>,
     viewings: Vec<Viewing>,
 ) -> (Result<Vec<Done>, RunFault>, Vec<Viewing>)
-    requires { AreJobsPlanned K.plan (λ c. c.items) jobs.items }
+    requires planned { AreJobsPlanned K.plan (λ c. c.items) jobs.items }
     ensures dones { IfOk result.0 (λ v. length v.items ≡ length jobs.items) }
     ensures done { IfOk result.0 (λ v.
         AreDone K.book K.base K.plan (λ c. c.items) jobs.items v.items) }

@@ -23,8 +23,8 @@ use Rattle.hfs_runs.proofs.running.run_shared.Goals as goal
 pub viewings_of-requires : goal.viewings_of-requires
 viewings_of-requires g c = omega (arith, c.requires.started.many, (viewers_within c.args.script c.requires.small).1)
 
-pub run_beside-dones-requires : goal.run_beside-dones-requires
-run_beside-dones-requires g c =
+pub run_beside-dones-requires-clause-planned : goal.run_beside-dones-requires-clause-planned
+run_beside-dones-requires-clause-planned g c lifetimes lives =
     let begins : AreJobs (λ (calls : Vec Call Global). calls.items) c.args.script (workers c.args.script) c.args.passes.items c.in_ok-jobs.jobs.items =
     record { first = c.requires.started.passes_are; many = c.in_ok-jobs.ensures.many; passes_are = c.in_ok-jobs.ensures.passes; calls_are = c.in_ok-jobs.ensures.calls } in
     jobs_planned (λ (calls : Vec Call Global). calls.items) c.args.script (workers c.args.script) c.args.passes.items c.in_ok-jobs.jobs.items g.K.Session.plan begins c.requires.planned
