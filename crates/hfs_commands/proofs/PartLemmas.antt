@@ -1,5 +1,21 @@
--- Faults of what is asked for.
-use Rattle.std.proofs.Common.{◌≡◌, ℕ, Option, None, Some, refl, sym, subst}
+-- What is asked for of a file, and its faults.
+use Rattle.std.proofs.Common.{◌≡◌, ◌∙◌, ℕ, List, Option, None, Some, ap, refl, sym, subst, inl, inr}
+use Rattle.std.specs.Prelude.{◌≢◌, ◌*◌, ◌/◌, length}
+use Rattle.hfs_commands.specs.OpenedFiles.{IsLaidOut, IsWholeRange, files_of, held_bytes, images_of, opened_layout, range_by, stored_images}
+use Rattle.hfs_commands.specs.Parts.{IsAskedPart, IsWholeAt, asked_at}
+use Rattle.hfs_commands.specs.declared.opened_file.OpenedFile.{OpenedFile}
+use Rattle.hfs_commands.specs.declared.opened_file.OpenedFile.TheVariants.{Plain, Raw}
+use Rattle.hfs_commands.specs.declared.opened_file.StoredFile.{StoredFile}
+use Rattle.hfs_commands.specs.declared.volume_files.FilePart.{FilePart}
+use Rattle.hfs_source.specs.Asking.{asked_in}
+use Rattle.hfs_source.specs.Images.{OfEach}
+use Rattle.hfs_source.specs.Raw.{layout_of}
+use Rattle.hfs_source.specs.declared.asking.Counted.{Counted}
+use Rattle.hfs_source.specs.declared.asking.NumberedRange.{NumberedRange}
+use Rattle.hfs_source.specs.declared.ranges.ByteRange.{ByteRange}
+use Rattle.hfs_source.specs.declared.ranges.Layout.{Layout}
+use Rattle.hfs_source.specs.declared.ranges.Layout.TheVariants as layout
+use Rattle.hfs_source.proofs.DataLemmas.{length-user_data_of}
 use Rattle.hfs_commands.specs.declared.fault.Fault.TheVariants.{NoVolume, SeveralVolumes}
 use Rattle.hfs_commands.specs.Faults.{IsUnnamed}
 
@@ -8,3 +24,55 @@ several_unnamed volume n none = subst (λ (v : Option ℕ). IsUnnamed v (Several
 
 pub missing_unnamed : (volume : Option ℕ) (n : ℕ) → volume ≡ Some n → IsUnnamed volume (NoVolume n)
 missing_unnamed volume n some = subst (λ (v : Option ℕ). IsUnnamed v (NoVolume n)) (sym some) refl
+
+-- ---- a part is what is asked for
+
+-- something that can't be sought in is taken as it is
+pub pipe_asked : {F : Type 0} (counted : Counted) (part : FilePart F) → held_bytes part.bytes.source ≢ None → part.place ≡ None
+    → opened_layout part.bytes.source ≡ layout.Plain → IsAskedPart counted None part
+pipe_asked counted part held place plain = inl (held, place, plain)
+
+-- and so is any file by the number 0
+pub whole_asked : {F : Type 0} (counted : Counted) (part : FilePart F) → part.place ≡ None → opened_layout part.bytes.source ≡ layout.Plain
+    → IsAskedPart counted (Some 0) part
+whole_asked counted part place plain = inl (refl, place, plain)
+
+-- what is found in a file is what is asked for of it
+pub part_asked : {F : Type 0} (layout : Layout) (counted : Counted) (volume : Option ℕ) (part : FilePart F) → volume ≢ Some 0 → IsLaidOut part.bytes.source
+    → opened_layout part.bytes.source ≡ layout → OfEach (images_of part.bytes.source) (λ bytes. asked_at part.place ≡ asked_in layout counted volume bytes)
+    → IsAskedPart counted volume part
+part_asked layout counted volume part other laid same is =
+    inr
+    (
+      other,
+      laid,
+      subst (λ (l : Layout). OfEach (images_of part.bytes.source) (λ bytes. asked_at part.place ≡ asked_in l counted volume bytes)) (sym same) is,
+    )
+
+-- ---- where there is no place, it has all bytes
+
+-- all of a file is all of the bytes in which volumes are looked for
+pub content_whole : {F : Type 0} (file : StoredFile F) (all range : ByteRange) (content : OpenedFile F) → IsWholeRange (stored_images file) all
+    → OfEach (files_of content) (stored_images file) → range ≡ range_by (opened_layout content) all → IsWholeRange (images_of content) range
+content_whole file all range (Plain stored) whole held is =
+    subst (λ (r : ByteRange). IsWholeRange (stored_images stored) r) (sym is) (whole.0, λ image holds. whole.1 image (held image holds))
+content_whole file all range (Raw user) whole held is =
+    subst (λ (r : ByteRange). IsWholeRange (images_of (Raw user)) r) (sym is)
+    (
+      refl,
+      λ image of.
+      ap length of.2 ∙ length-user_data_of of.0 ∙ ap (λ (n : ℕ). n / 2352 * 2048) (whole.1 of.0 (held of.0 of.1)),
+    )
+
+pub whole_at : (Old New : List ℕ → Type 0) (place : Option NumberedRange) (old new : ByteRange) → IsWholeRange Old old → (place ≡ None → new ≡ old)
+    → OfEach New Old → IsWholeAt New place new
+whole_at Old New None old new whole same held =
+    subst (λ (r : ByteRange). IsWholeRange New r) (sym (same refl)) (whole.0, λ image holds. whole.1 image (held image holds))
+whole_at Old New (Some place) old new whole same held = tt
+
+-- ---- layouts
+
+-- a file that is narrowed is laid out as it was
+pub plain_laid : {F : Type 0} (old new : StoredFile F) → OfEach (stored_images old) (λ bytes. layout.Plain ≡ layout_of bytes)
+    → OfEach (stored_images new) (stored_images old) → IsLaidOut (Plain new)
+plain_laid old new plain held = λ image holds. plain image (held image holds)

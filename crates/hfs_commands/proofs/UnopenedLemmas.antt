@@ -12,10 +12,9 @@ use Rattle.hfs_commands.specs.declared.unopened.LeftFile.{LeftFile}
 use Rattle.hfs_commands.specs.declared.unopened.LeftFile.TheVariants.{Content, Input, Nothing, Part}
 use Rattle.hfs_commands.specs.declared.unopened.UnopenedFile.{UnopenedFile}
 use Rattle.hfs_commands.specs.Faults.{IsRefusal, IsUnopened, KeepsRefusal}
-use Rattle.hfs_commands.specs.OpenedFiles.{images_of, opened_layout, stored_images}
-use Rattle.hfs_commands.specs.Parts.{IsAskedIn, asked_at}
+use Rattle.hfs_commands.specs.OpenedFiles.{AreRaw, IsLaidOut, images_of, opened_layout, stored_images}
 use Rattle.hfs_commands.specs.SeenFiles.{PartBlocks, parts_of}
-use Rattle.hfs_commands.specs.Unopened.{AreNoPart, HasNoPart, HasRawSectors, IsNoPart, IsReadFault, IsRefusedPart, TellsLeft, TellsPlace, TellsWhy, WasNotRead}
+use Rattle.hfs_commands.specs.Unopened.{AreAmong, AreNoPart, HasNoPart, HasRawSectors, IsNoPart, IsReadFault, IsRefusedPart, TellsLeft, TellsPlace, TellsWhy, WasNotRead}
 use Rattle.hfs_image.specs.declared.opening.NeededFault.{NeededFault}
 use Rattle.hfs_image.specs.declared.opening.NeededFault.TheVariants as needed
 use Rattle.hfs_image.specs.Seen.{IsRefusedBy}
@@ -101,28 +100,23 @@ pub no_part : (layout : Layout) (counted : Counted) (volume : Option ℕ) (Holds
 no_part layout counted volume Holds asked why is told = λ file holds. subst (λ (a : Asked). IsNoPart a why) (is file holds) told
 
 -- and where the file is handed back, of that
-pub no_part_of : {F : Type 0} (path : Bor (List ℕ)) (layout : Layout) (counted : Counted) (volume : Option ℕ) (file : OpenedFile F) (why : Fault)
-    → opened_layout file ≡ layout → TellsPlace path layout counted volume (images_of file) why
-    → TellsWhy path (HasNoPart counted volume) WasNotRead (record { fault = why; left = Content file })
-no_part_of path layout counted volume file why same told =
-    subst (λ (l : Layout). TellsPlace path l counted volume (images_of file) why) (sym same) told
+pub no_part_handed : {F : Type 0} (path : Bor (List ℕ)) (counted : Counted) (volume : Option ℕ) (file : OpenedFile F) (why : Fault) (unopened : UnopenedFile F)
+    → unopened.fault ≡ why → unopened.left ≡ Content file → IsLaidOut file → TellsPlace path (opened_layout file) counted volume (images_of file) why
+    → TellsWhy path (HasNoPart counted volume) WasNotRead unopened
+no_part_handed path counted volume file why unopened fault left laid (inl read) = inl (subst (IsReadFault path) (sym fault) read)
+no_part_handed path counted volume file why unopened fault left laid (inr none) =
+    inr
+    (subst (λ l. TellsLeft (HasNoPart counted volume) WasNotRead l unopened.fault) (sym left) (subst (HasNoPart counted volume file) (sym fault) (laid, none)))
 
--- what is found in a file is what is asked for of it
-pub asked_of : {F : Type 0} (layout : Layout) (counted : Counted) (volume : Option ℕ) (file : OpenedFile F) (place : Option NumberedRange)
-    → opened_layout file ≡ layout → OfEach (images_of file) (λ bytes. asked_at place ≡ asked_in layout counted volume bytes) → IsAskedIn counted volume file place
-asked_of layout counted volume file place same is =
-    subst (λ (l : Layout). OfEach (images_of file) (λ bytes. asked_at place ≡ asked_in l counted volume bytes)) (sym same) is
-
--- by the number 0 the file is asked for as it is
-pub whole_asked : {F : Type 0} (counted : Counted) (file : OpenedFile F) → IsAskedIn counted (Some 0) file None
-unfolding asked_in
-whole_asked counted file = λ bytes holds. refl
+-- what is handed back is among what was given
+pub handed_among : {F : Type 0} (Holds : List ℕ → Type 0) (file : OpenedFile F) (unopened : UnopenedFile F) → unopened.left ≡ Content file
+    → OfEach (images_of file) Holds → AreAmong Holds unopened.left
+handed_among Holds file unopened left held = subst (AreAmong Holds) (sym left) held
 
 -- the user data of a file of raw sectors isn't written
 pub raw_sectors : {F : Type 0} (path : Bor (List ℕ)) (TellsPart : PartBlocks F → Fault → Type 0) (user : UserData (StoredFile F))
-    → OfEach (stored_images user.bytes) (λ bytes. layout.Raw ≡ layout_of bytes)
-    → TellsWhy path HasRawSectors TellsPart (record { fault = NotWritten; left = Content (Raw user) })
-raw_sectors path TellsPart user raw = inr (refl, λ image of. (of.0, sym (raw of.0 of.1), of.2))
+    → AreRaw (stored_images user.bytes) → TellsWhy path HasRawSectors TellsPart (record { fault = NotWritten; left = Content (Raw user) })
+raw_sectors path TellsPart user raw = inr (refl, refl, raw)
 
 -- an image that isn't opened by its blocks is refused, or it wasn't read
 pub refused_part : {F : Type 0} (path : Bor (List ℕ)) (Tells : OpenedFile F → Fault → Type 0) (part : PartBlocks F) (why : NeededFault) (found : Fault)

@@ -8,3 +8,12 @@ pub returns-in-Err-clause-told : goal.returns-in-Err-clause-told
 returns-in-Err-clause-told g c =
     refused_part c.args.path (HasNoPart Volumes c.args.volume) c.in-Err.field-0.source c.in-Err.field-0.fault c.of_needed-fault.result
     c.of_needed-fault.ensures.read c.of_needed-fault.ensures.memory c.of_needed-fault.ensures.refused c.in-Err.ensures.refused
+
+pub returns-in-Ok-clause-part : goal.returns-in-Ok-clause-part
+returns-in-Ok-clause-part g c = record {
+  part = c.in_ok-part.part;
+  asked = c.in_ok-part.ensures.asked;
+  opened = c.part_blocks.result.blocks;
+  blocks = record { bytes = c.part_blocks.ensures.bytes; range = c.part_blocks.ensures.part; inside = c.part_blocks.ensures.inside };
+  narrows = c.in-Ok.ensures.narrows;
+}
