@@ -1,21 +1,26 @@
 -- What is asked for of a file, and its faults.
 use Rattle.std.proofs.Common.{◌≡◌, ◌∙◌, ℕ, List, Option, None, Some, ap, refl, sym, subst, inl, inr}
 use Rattle.std.specs.Prelude.{◌≢◌, ◌*◌, ◌/◌, length}
-use Rattle.hfs_commands.specs.OpenedFiles.{IsLaidOut, IsWholeRange, files_of, held_bytes, images_of, opened_layout, range_by, stored_images}
+use Rattle.std.specs.Borrow.{Bor}
+use Rattle.hfs_commands.specs.OpenedFiles.{IsLaidOut, IsWholeRange, failures_of, files_of, held_bytes, images_of, opened_layout, range_by, stored_failures, stored_images}
 use Rattle.hfs_commands.specs.Parts.{IsAskedPart, IsWholeAt, asked_at}
 use Rattle.hfs_commands.specs.declared.opened_file.OpenedFile.{OpenedFile}
 use Rattle.hfs_commands.specs.declared.opened_file.OpenedFile.TheVariants.{Plain, Raw}
 use Rattle.hfs_commands.specs.declared.opened_file.StoredFile.{StoredFile}
 use Rattle.hfs_commands.specs.declared.volume_files.FilePart.{FilePart}
+use Rattle.hfs_commands.specs.Unopened.{TellsPlace}
 use Rattle.hfs_source.specs.Asking.{asked_in}
-use Rattle.hfs_source.specs.Images.{OfEach}
+use Rattle.hfs_source.specs.Images.{FailsWhere, OfEach}
 use Rattle.hfs_source.specs.Raw.{layout_of}
+use Rattle.hfs_source.specs.Reading.{FailsInData, IsDataOfOne}
 use Rattle.hfs_source.specs.declared.asking.Counted.{Counted}
 use Rattle.hfs_source.specs.declared.asking.NumberedRange.{NumberedRange}
+use Rattle.hfs_source.specs.declared.data.UserData.{UserData}
 use Rattle.hfs_source.specs.declared.ranges.ByteRange.{ByteRange}
 use Rattle.hfs_source.specs.declared.ranges.Layout.{Layout}
 use Rattle.hfs_source.specs.declared.ranges.Layout.TheVariants as layout
 use Rattle.hfs_source.proofs.DataLemmas.{length-user_data_of}
+use Rattle.hfs_commands.specs.declared.fault.Fault.{Fault}
 use Rattle.hfs_commands.specs.declared.fault.Fault.TheVariants.{NoVolume, SeveralVolumes}
 use Rattle.hfs_commands.specs.Faults.{IsUnnamed}
 
@@ -30,12 +35,12 @@ missing_unnamed volume n some = subst (λ (v : Option ℕ). IsUnnamed v (NoVolum
 -- something that can't be sought in is taken as it is
 pub pipe_asked : {F : Type 0} (counted : Counted) (part : FilePart F) → held_bytes part.bytes.source ≢ None → part.place ≡ None
     → opened_layout part.bytes.source ≡ layout.Plain → IsAskedPart counted None part
-pipe_asked counted part held place plain = inl (held, place, plain)
+pipe_asked counted part held place plain = inl (held, (place, plain))
 
 -- and so is any file by the number 0
 pub whole_asked : {F : Type 0} (counted : Counted) (part : FilePart F) → part.place ≡ None → opened_layout part.bytes.source ≡ layout.Plain
     → IsAskedPart counted (Some 0) part
-whole_asked counted part place plain = inl (refl, place, plain)
+whole_asked counted part place plain = inl (refl, (place, plain))
 
 -- what is found in a file is what is asked for of it
 pub part_asked : {F : Type 0} (layout : Layout) (counted : Counted) (volume : Option ℕ) (part : FilePart F) → volume ≢ Some 0 → IsLaidOut part.bytes.source
@@ -45,8 +50,7 @@ part_asked layout counted volume part other laid same is =
     inr
     (
       other,
-      laid,
-      subst (λ (l : Layout). OfEach (images_of part.bytes.source) (λ bytes. asked_at part.place ≡ asked_in l counted volume bytes)) (sym same) is,
+      (laid, subst (λ (l : Layout). OfEach (images_of part.bytes.source) (λ bytes. asked_at part.place ≡ asked_in l counted volume bytes)) (sym same) is),
     )
 
 -- ---- where there is no place, it has all bytes
@@ -76,3 +80,32 @@ whole_at Old New (Some place) old new whole same held = tt
 pub plain_laid : {F : Type 0} (old new : StoredFile F) → OfEach (stored_images old) (λ bytes. layout.Plain ≡ layout_of bytes)
     → OfEach (stored_images new) (stored_images old) → IsLaidOut (Plain new)
 plain_laid old new plain held = λ image holds. plain image (held image holds)
+
+pub opened_laid : {F : Type 0} (opened : OpenedFile F) (old new : StoredFile F) → opened ≡ Plain old → IsLaidOut opened
+    → OfEach (stored_images new) (stored_images old) → IsLaidOut (Plain new)
+opened_laid opened old new is laid held = plain_laid old new (subst IsLaidOut is laid) held
+
+-- ---- user data that was read through a file which is known to be of raw sectors
+
+module _ {F : Type 0} (opened : OpenedFile F) (user back : UserData (StoredFile F)) (old new : StoredFile F) (is : opened ≡ Raw user)
+    (was : old ≡ user.bytes) (now : back.bytes ≡ new) where
+  pub data_held : OfEach (IsDataOfOne (stored_images new)) (IsDataOfOne (stored_images old)) → OfEach (images_of (Raw back)) (images_of opened)
+  data_held held =
+      subst (λ (o : OpenedFile F). OfEach (images_of (Raw back)) (images_of o)) (sym is)
+      (subst (λ (f : StoredFile F). OfEach (IsDataOfOne (stored_images f)) (images_of (Raw user))) (sym now)
+      (subst (λ (f : StoredFile F). OfEach (IsDataOfOne (stored_images new)) (IsDataOfOne (stored_images f))) was held))
+
+  pub data_fails : (few many : ℕ) → few ≡ user.sectors → back.sectors ≡ many
+      → FailsWhere (FailsInData (stored_failures new) many) (FailsInData (stored_failures old) few) → FailsWhere (failures_of (Raw back)) (failures_of opened)
+  data_fails few many sectors same later =
+      subst (λ (o : OpenedFile F). FailsWhere (failures_of (Raw back)) (failures_of o)) (sym is)
+      (subst (λ (f : StoredFile F). FailsWhere (FailsInData (stored_failures f) back.sectors) (failures_of (Raw user))) (sym now)
+      (subst (λ (n : ℕ). FailsWhere (FailsInData (stored_failures new) n) (failures_of (Raw user))) (sym same)
+      (subst (λ (f : StoredFile F). FailsWhere (FailsInData (stored_failures new) many) (FailsInData (stored_failures f) user.sectors)) was
+      (subst (λ (n : ℕ). FailsWhere (FailsInData (stored_failures new) many) (FailsInData (stored_failures old) n)) sectors later))))
+
+  pub data_tells : (path : Bor (List ℕ)) (counted : Counted) (volume : Option ℕ) (why : Fault)
+      → TellsPlace path layout.Raw counted volume (IsDataOfOne (stored_images new)) why
+      → TellsPlace path layout.Raw counted volume (images_of (Raw back)) why
+  data_tells path counted volume why told =
+      subst (λ (f : StoredFile F). TellsPlace path layout.Raw counted volume (IsDataOfOne (stored_images f)) why) (sym now) told

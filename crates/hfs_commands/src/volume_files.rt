@@ -142,7 +142,7 @@ fn whole_part<F: Read + Seek>(bytes: Window<OpenedFile<F>>) -> FilePart<F>
 /// A file as it is.
 fn stored_part<F: Read + Seek>(file: Window<StoredFile<F>>) -> FilePart<F>
     ensures layout { opened_layout result.bytes.source ≡ Plain }
-    ensures images { images_of result.bytes.source ≡ stored_images file.source }
+    ensures images { OfEach (images_of result.bytes.source) (stored_images file.source) }
     ensures held { held_bytes result.bytes.source ≡ stored_bytes file.source }
     ensures range { result.bytes.range ≡ file.range }
     ensures place { result.place ≡ None }
@@ -235,7 +235,7 @@ pub(crate) fn place_in<'a, F: Read + Seek + Drop>(
 /// The part of an opened file that is asked for, given the number of a range in it or none, as [`find_asked`] says. Faults, with
 /// the file: `NoVolume` if there is no such range; `SeveralVolumes` if no number is given and there are several candidates; a
 /// read failed, memory was refused.
-#[tactic(auto, using(crate::proofs::HeldBytes::content_stays))]
+#[tactic(auto, using(crate::proofs::HeldBytes::content_stays, crate::proofs::PartLemmas::whole_at))]
 fn part_of<'a, F: Read + Seek + Drop>(
     alloc: Global,
     file: Window<OpenedFile<F>>,
@@ -244,6 +244,7 @@ fn part_of<'a, F: Read + Seek + Drop>(
     volume: Option<u64>,
 ) -> Result<FilePart<F>, UnopenedFile<'a, F>>
     requires laid_out { IsLaidOut file.source }
+    requires all { IsWholeRange (images_of file.source) file.range }
     ensures asked { IfOk result (λ part. OfEach (images_of part.bytes.source) (λ bytes.
         asked_at part.place ≡ asked_in (opened_layout file.source) counted volume bytes)) }
     ensures answer { IfOk result (λ part. IsAnswerTo volume (asked_at part.place)) }
@@ -252,6 +253,8 @@ fn part_of<'a, F: Read + Seek + Drop>(
     ensures laid_out { IfOk result (λ part. IsLaidOut part.bytes.source) }
     ensures range { IfOk result (λ part. IsRangeAt part.place part.bytes.range) }
     ensures whole { IfOk result (λ part. part.place ≡ None → part.bytes.range ≡ file.range) }
+    ensures all { IfOk result (λ part. IsWholeAt (images_of part.bytes.source) part.place
+        part.bytes.range) }
     ensures held { IfOk result (λ part. OfEach (images_of part.bytes.source)
         (images_of file.source)) }
     ensures stays { IfOk result (λ part. StaysHeld (held_content file.source)
@@ -288,7 +291,6 @@ fn is_held<F: Read + Seek>(file: &StoredFile<F>) -> bool
 }
 
 /// What is taken of an image if no volume is chosen. Something that can't be sought in, such as a pipe, is taken as it is.
-#[tactic(auto, using(crate::proofs::PartLemmas::pipe_asked, crate::proofs::PartLemmas::content_whole))]
 fn chosen_part<'a, F: Read + Seek + Drop>(
     alloc: Global,
     bytes: Window<StoredFile<F>>,
@@ -314,7 +316,7 @@ fn chosen_part<'a, F: Read + Seek + Drop>(
 /// Opens what is asked for of an image. With a number, it is that volume in the file, or in the user data of its raw sectors; 0
 /// is the image as it is. Without one, it is what [`find_asked`] chooses if the image can be sought in, and otherwise the image
 /// as it is. What can be sought in is read on demand. Faults, with what was read: as for [`open_file`] and [`part_of`].
-#[tactic(auto, using(crate::proofs::PartLemmas::whole_asked, crate::proofs::PartLemmas::content_whole, crate::proofs::UnopenedLemmas::told_of_file, crate::proofs::UnopenedLemmas::unopened_file))]
+#[tactic(auto, using(crate::proofs::UnopenedLemmas::told_of_file, crate::proofs::UnopenedLemmas::unopened_file))]
 pub fn open_asked<'a, R: Files + AllocGlobal>(
     rt: &R,
     path: &'a str,

@@ -10,10 +10,12 @@ returns-in-Err-clause-told g c =
     c.of_needed-fault.ensures.read c.of_needed-fault.ensures.memory c.of_needed-fault.ensures.refused c.in-Err.ensures.refused
 
 pub returns-in-Ok-clause-part : goal.returns-in-Ok-clause-part
-returns-in-Ok-clause-part g c = record {
+returns-in-Ok-clause-part g c =
+    let source = c.part_blocks.result in
+    record {
   part = c.in_ok-part.part;
   asked = c.in_ok-part.ensures.asked;
-  opened = c.part_blocks.result.blocks;
+  opened = source.blocks;
   blocks = record { bytes = c.part_blocks.ensures.bytes; range = c.part_blocks.ensures.part; inside = c.part_blocks.ensures.inside };
   narrows = c.in-Ok.ensures.narrows;
 }
