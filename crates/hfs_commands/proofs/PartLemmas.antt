@@ -47,8 +47,7 @@ pub part_asked : {F : Type 0} (layout : Layout) (counted : Counted) (volume : Op
     → opened_layout part.bytes.source ≡ layout → OfEach (images_of part.bytes.source) (λ bytes. asked_at part.place ≡ asked_in layout counted volume bytes)
     → IsAskedPart counted volume part
 part_asked layout counted volume part other laid same is =
-    inr
-    (
+    inr (
       other,
       (laid, subst (λ (l : Layout). OfEach (images_of part.bytes.source) (λ bytes. asked_at part.place ≡ asked_in l counted volume bytes)) (sym same) is),
     )
@@ -61,11 +60,10 @@ pub content_whole : {F : Type 0} (file : StoredFile F) (all range : ByteRange) (
 content_whole file all range (Plain stored) whole held is =
     subst (λ (r : ByteRange). IsWholeRange (stored_images stored) r) (sym is) (whole.0, λ image holds. whole.1 image (held image holds))
 content_whole file all range (Raw user) whole held is =
-    subst (λ (r : ByteRange). IsWholeRange (images_of (Raw user)) r) (sym is)
-    (
+    subst (λ (r : ByteRange). IsWholeRange (images_of (Raw user)) r) (sym is) (
       refl,
       λ image of.
-      ap length of.2 ∙ length-user_data_of of.0 ∙ ap (λ (n : ℕ). n / 2352 * 2048) (whole.1 of.0 (held of.0 of.1)),
+          ap length of.2 ∙ length-user_data_of of.0 ∙ ap (λ (n : ℕ). n / 2352 * 2048) (whole.1 of.0 (held of.0 of.1)),
     )
 
 pub whole_at : (Old New : List ℕ → Type 0) (place : Option NumberedRange) (old new : ByteRange) → IsWholeRange Old old → (place ≡ None → new ≡ old)

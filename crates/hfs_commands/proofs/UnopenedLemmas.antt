@@ -13,8 +13,8 @@ use Rattle.hfs_commands.specs.declared.unopened.LeftFile.TheVariants.{Content, I
 use Rattle.hfs_commands.specs.declared.unopened.UnopenedFile.{UnopenedFile}
 use Rattle.hfs_commands.specs.Faults.{IsRefusal, IsUnopened, KeepsRefusal}
 use Rattle.hfs_commands.specs.OpenedFiles.{AreRaw, IsLaidOut, images_of, opened_layout, stored_images}
-use Rattle.hfs_commands.specs.SeenFiles.{PartBlocks, parts_of}
-use Rattle.hfs_commands.specs.Unopened.{AreAmong, AreNoPart, HasNoPart, HasRawSectors, IsNoPart, IsReadFault, IsRefusedPart, TellsLeft, TellsPlace, TellsWhy, WasNotRead}
+use Rattle.hfs_commands.specs.SeenFiles.{AreSeenOf, PartBlocks, parts_of}
+use Rattle.hfs_commands.specs.Unopened.{AreAmong, AreNoPart, HasNoPart, HasRawSectors, IsNoPart, IsReadFault, IsRefusedOf, TellsLeft, TellsPlace, TellsWhy, WasNotRead}
 use Rattle.hfs_image.specs.declared.opening.NeededFault.{NeededFault}
 use Rattle.hfs_image.specs.declared.opening.NeededFault.TheVariants as needed
 use Rattle.hfs_image.specs.Seen.{IsRefusedBy}
@@ -121,7 +121,9 @@ raw_sectors path TellsPart user raw = inr (refl, refl, raw)
 -- an image that isn't opened by its blocks is refused, or it wasn't read
 pub refused_part : {F : Type 0} (path : Bor (List ℕ)) (Tells : OpenedFile F → Fault → Type 0) (part : PartBlocks F) (why : NeededFault) (found : Fault)
     → (why ≡ needed.ReadFailed → found ≡ CannotRead path) → (why ≡ needed.Memory → found ≡ NoMemory) → KeepsRefusal why found
-    → OfEach (parts_of part.blocks) (IsRefusedBy why) → TellsWhy path Tells IsRefusedPart (record { fault = found; left = Part part })
-refused_part path Tells part needed.ReadFailed found read memory keeps refused = inl (inl (read refl))
-refused_part path Tells part needed.Memory found read memory keeps refused = inl (inr (memory refl))
-refused_part path Tells part (needed.Refused why) found read memory keeps refused = inr (why, keeps why refl, λ image holds. refused image holds why refl)
+    → OfEach (parts_of part.blocks) (IsRefusedBy why) → (counted : Counted) (volume : Option ℕ) → AreSeenOf counted volume part.blocks
+    → TellsWhy path Tells (IsRefusedOf counted volume) (record { fault = found; left = Part part })
+refused_part path Tells part needed.ReadFailed found read memory keeps refused counted volume seen = inl (inl (read refl))
+refused_part path Tells part needed.Memory found read memory keeps refused counted volume seen = inl (inr (memory refl))
+refused_part path Tells part (needed.Refused why) found read memory keeps refused counted volume seen =
+    inr (seen, (why, keeps why refl, λ image holds. refused image holds why refl))

@@ -1,5 +1,5 @@
 -- Why a volume isn't opened to be changed.
-use Rattle.std.proofs.Common.{◌≡◌, ℕ, List, Some, refl, subst, sym, inl, inr}
+use Rattle.std.proofs.Common.{◌≡◌, ℕ, List, Option, None, Some, refl, subst, sym, inl, inr}
 use Rattle.std.specs.Borrow.{Bor}
 use Rattle.hfs_commands.specs.declared.fault.Fault.{Fault}
 use Rattle.hfs_commands.specs.declared.fault.Fault.TheVariants.{CannotRead, NoMemory, NotWritten, SumWrong}
@@ -8,14 +8,16 @@ use Rattle.hfs_commands.specs.declared.unopened.LeftFile.{LeftFile}
 use Rattle.hfs_commands.specs.declared.unopened.LeftFile.TheVariants.{Content, Input, Nothing, Part}
 use Rattle.hfs_commands.specs.declared.unopened.UnopenedFile.{UnopenedFile}
 use Rattle.hfs_commands.specs.Faults.{IsUnopened, IsUnopenedVolume}
-use Rattle.hfs_commands.specs.OpenedFiles.{IsLaidOut, images_of, opened_layout}
+use Rattle.hfs_commands.specs.OpenedFiles.{IsLaidOut, IsWholeRange, images_of, opened_layout}
+use Rattle.hfs_commands.specs.Parts.{IsRangeAt, IsWholeAt}
 use Rattle.hfs_commands.specs.Unopened.{HasNoPart, IsReadFault, TellsLeft, TellsPlace, TellsWhy, WasNotRead}
-use Rattle.hfs_commands.specs.WatchedVolumes.{HasNoVolume, IsWrongSum}
+use Rattle.hfs_commands.specs.WatchedVolumes.{HasNoVolume, IsWrongSum, range_at}
 use Rattle.hfs_source.specs.Asking.{asked_in}
 use Rattle.hfs_source.specs.Images.{OfEach}
 use Rattle.hfs_source.specs.declared.asking.Asked.TheVariants.{Inside}
 use Rattle.hfs_source.specs.declared.asking.Counted.TheVariants.{Ranges}
 use Rattle.hfs_source.specs.declared.asking.NumberedRange.{NumberedRange}
+use Rattle.hfs_source.specs.declared.ranges.ByteRange.{ByteRange}
 use Rattle.hfs_source.specs.declared.ranges.FoundRange.{FoundRange}
 use Rattle.hfs_source.specs.declared.ranges.Layout.TheVariants as layout
 
@@ -80,3 +82,15 @@ pub sum_fault : {F : Type 0} (path : Bor (List ℕ)) (number : ℕ) (Holds : Lis
 sum_fault path number Holds found why unopened fault (inl wrong) = inr (inr (subst (λ (f : Fault). f ≡ SumWrong) (sym fault) wrong.0))
 sum_fault path number Holds found why unopened fault (inr (inl read)) = inl (inl (subst (λ (f : Fault). f ≡ CannotRead path) (sym fault) read))
 sum_fault path number Holds found why unopened fault (inr (inr memory)) = inl (inr (inl (inr (subst (λ (f : Fault). f ≡ NoMemory) (sym fault) memory))))
+
+-- ---- where a volume lies that is opened
+
+pub placed_range : (place : Option NumberedRange) (all range : ByteRange) → range ≡ range_at place all → IsRangeAt place range
+placed_range None all range is = tt
+placed_range (Some place) all range is = is
+
+pub placed_whole : (Old New : List ℕ → Type 0) (place : Option NumberedRange) (all range : ByteRange) → IsWholeRange Old all → OfEach New Old
+    → range ≡ range_at place all → IsWholeAt New place range
+placed_whole Old New None all range whole held is =
+    subst (λ (r : ByteRange). IsWholeRange New r) (sym is) (whole.0, λ image holds. whole.1 image (held image holds))
+placed_whole Old New (Some place) all range whole held is = tt

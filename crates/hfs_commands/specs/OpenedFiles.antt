@@ -69,6 +69,10 @@ opened_layout (Raw user) = layout.Raw
 abbrev pub AreRaw : (List ℕ → Type 0) → Type 0
 AreRaw Holds = OfEach Holds (λ bytes. layout.Raw ≡ layout_of bytes)
 
+-- or they aren't
+abbrev pub ArePlain : (List ℕ → Type 0) → Type 0
+ArePlain Holds = OfEach Holds (λ bytes. layout.Plain ≡ layout_of bytes)
+
 -- each file that has the bytes which were read is laid out as it is told
 abbrev pub IsLaidOut : {F : Type 0} → OpenedFile F → Type 0
 IsLaidOut file = OfEach (files_of file) (λ bytes. opened_layout file ≡ layout_of bytes)

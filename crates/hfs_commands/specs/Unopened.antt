@@ -12,7 +12,7 @@ use Rattle.hfs_commands.specs.declared.unopened.LeftFile.{LeftFile}
 use Rattle.hfs_commands.specs.declared.unopened.LeftFile.TheVariants.{Content, Input, Nothing, Part}
 use Rattle.hfs_commands.specs.declared.unopened.UnopenedFile.{UnopenedFile}
 use Rattle.hfs_commands.specs.OpenedFiles.{IsLaidOut, images_of, opened_layout}
-use Rattle.hfs_commands.specs.SeenFiles.{PartBlocks, parts_of}
+use Rattle.hfs_commands.specs.SeenFiles.{AreSeenOf, PartBlocks, parts_of}
 use Rattle.hfs_source.specs.Asking.{asked_in}
 use Rattle.hfs_source.specs.declared.asking.Asked.{Asked}
 use Rattle.hfs_source.specs.declared.asking.Asked.TheVariants.{Inside, Missing, Several, WholeFile}
@@ -56,6 +56,10 @@ HasRawSectors file why = (why ≡ NotWritten) × (opened_layout file ≡ layout.
 -- an image is refused for this first fault of it, and so it is told
 abbrev pub IsRefusedPart : {F : Type 0} → PartBlocks F → Fault → Type 0
 IsRefusedPart part why = (refusal : MountFault) × (why ≡ Refused refusal) × OfEach (parts_of part.blocks) (λ image. fault_of image ≡ Some refusal)
+
+-- the same of what was asked for of a file
+abbrev pub IsRefusedOf : {F : Type 0} → Counted → Option ℕ → PartBlocks F → Fault → Type 0
+IsRefusedOf counted volume part why = AreSeenOf counted volume part.blocks × IsRefusedPart part why
 
 -- the images of the bytes that are handed back, in which volumes were looked for, are among these
 abbrev pub AreAmong : {F : Type 0} → (List ℕ → Type 0) → LeftFile F → Type 0

@@ -46,7 +46,10 @@ impl<'a, F: Read + Seek + Drop> From<UnopenedFile<'a, F>> for Fault<'a> {
 }
 
 /// A fault of what was looked for in a file's bytes, with the file.
-pub(crate) fn with_file<'a, F: Read + Seek>(fault: Fault<'a>, file: OpenedFile<F>) -> UnopenedFile<'a, F>
+pub(crate) fn with_file<'a, F: Read + Seek>(
+    fault: Fault<'a>,
+    file: OpenedFile<F>,
+) -> UnopenedFile<'a, F>
     ensures fault { result.fault ≡ fault.entry }
     ensures left { result.left ≡ Content file }
 {

@@ -5,11 +5,10 @@ ghost use Rattle.hfs_source.specs.declared.asking.Counted.TheVariants.{Ranges};
 ghost use Rattle.hfs_source.specs.declared.ranges.Layout.TheVariants.{Plain};
 ghost use Rattle.hfs_source.specs.Images.{FailsWhere, OfEach};
 ghost use Rattle.hfs_commands.specs.Faults.{IsUnopenedVolume};
-ghost use Rattle.hfs_commands.specs.OpenedFiles.{AreRaw, StaysHeld, stored_bytes, stored_images};
-ghost use Rattle.hfs_commands.specs.Parts.{asked_at};
+ghost use Rattle.hfs_commands.specs.OpenedFiles.{ArePlain, AreRaw, IsWholeRange, StaysHeld, stored_bytes, stored_images};
+ghost use Rattle.hfs_commands.specs.Parts.{IsRangeAt, IsWholeAt, asked_at};
 ghost use Rattle.hfs_commands.specs.Unopened.{TellsWhy, WasNotRead};
 ghost use Rattle.hfs_commands.specs.WatchedVolumes.{HasNoVolume, IsWrongSum, has_wrong_sum, has_wrong_sum_at, lies_in, range_at, sum_at_of};
-ghost use Rattle.hfs_source.specs.Raw.{layout_of};
 
 use crate::fault::Fault;
 use crate::opened_file::{OpenedFile, StoredFile, content_of};
@@ -67,7 +66,7 @@ fn need_right_sum<'a, S: PlacedBytes>(
 }
 
 /// The volume with this number in a file's bytes. Faults: as for [`open_volume`].
-#[tactic(auto, using(crate::proofs::HeldBytes::stays_held, crate::proofs::UnopenedVolumes::no_volume, crate::proofs::UnopenedVolumes::wrong_sum, crate::proofs::UnopenedVolumes::same_fault, crate::proofs::UnopenedVolumes::sum_fault, crate::proofs::PartLemmas::plain_laid))]
+#[tactic(auto, using(crate::proofs::HeldBytes::stays_held, crate::proofs::UnopenedVolumes::wrong_sum, crate::proofs::UnopenedVolumes::same_fault, crate::proofs::UnopenedVolumes::sum_fault, crate::proofs::UnopenedVolumes::placed_range, crate::proofs::UnopenedVolumes::placed_whole, crate::proofs::PartLemmas::plain_laid))]
 fn volume_in<'a, F: Read + Seek + Drop>(
     alloc: Global,
     file: Window<StoredFile<F>>,
@@ -75,12 +74,17 @@ fn volume_in<'a, F: Read + Seek + Drop>(
     path: &'a str,
     number: u64,
 ) -> Result<WatchedVolume<F>, UnopenedFile<'a, F>>
-    requires { OfEach (stored_images file.source) (λ bytes. Plain ≡ layout_of bytes) }
+    requires plain { ArePlain (stored_images file.source) }
+    requires all { IsWholeRange (stored_images file.source) file.range }
+    ensures plain { IfOk result (λ volume. ArePlain (stored_images volume.blocks.bytes.bytes.file)) }
     ensures asked { IfOk result (λ volume. OfEach (stored_images volume.blocks.bytes.bytes.file)
         (λ bytes. asked_at volume.place ≡ asked_in Plain Ranges (Some number) bytes)) }
     ensures answer { IfOk result (λ volume. IsAnswerTo (Some number) (asked_at volume.place)) }
     ensures lies { IfOk result (λ volume. lies_in volume.blocks.bytes
         ≡ range_at volume.place file.range) }
+    ensures range { IfOk result (λ volume. IsRangeAt volume.place (lies_in volume.blocks.bytes)) }
+    ensures all { IfOk result (λ volume. IsWholeAt (stored_images volume.blocks.bytes.bytes.file)
+        volume.place (lies_in volume.blocks.bytes)) }
     ensures sum_at { IfOk result (λ volume. volume.sum_at ≡ sum_at_of volume.place) }
     ensures right { IfOk result (λ volume. OfEach (stored_images volume.blocks.bytes.bytes.file)
         (λ bytes. false ≡ has_wrong_sum_at volume.place bytes)) }
@@ -150,7 +154,16 @@ pub fn open_volume<'a, R: Files + AllocGlobal>(
     path: &'a str,
     number: u64,
 ) -> Result<WatchedVolume<R::File>, UnopenedFile<'a, R::File>>
+    ensures plain { IfOk result (λ volume. ArePlain (stored_images volume.blocks.bytes.bytes.file)) }
+    ensures asked { IfOk result (λ volume. OfEach (stored_images volume.blocks.bytes.bytes.file)
+        (λ bytes. asked_at volume.place ≡ asked_in Plain Ranges (Some number) bytes)) }
     ensures answer { IfOk result (λ volume. IsAnswerTo (Some number) (asked_at volume.place)) }
+    ensures range { IfOk result (λ volume. IsRangeAt volume.place (lies_in volume.blocks.bytes)) }
+    ensures all { IfOk result (λ volume. IsWholeAt (stored_images volume.blocks.bytes.bytes.file)
+        volume.place (lies_in volume.blocks.bytes)) }
+    ensures sum_at { IfOk result (λ volume. volume.sum_at ≡ sum_at_of volume.place) }
+    ensures right { IfOk result (λ volume. OfEach (stored_images volume.blocks.bytes.bytes.file)
+        (λ bytes. false ≡ has_wrong_sum_at volume.place bytes)) }
     ensures told { IfErr result (TellsWhy path.entry (HasNoVolume number) WasNotRead) }
     ensures fault { IfErr result (λ back. IsUnopenedVolume path.entry number back.fault) }
 {
