@@ -1,15 +1,13 @@
 -- What is asked for of a file, and its faults.
-use Rattle.std.proofs.Common.{◌≡◌, ◌∙◌, ℕ, List, Option, None, Some, ap, refl, sym, subst, inl, inr}
-use Rattle.std.specs.Prelude.{◌≢◌, ◌*◌, ◌/◌, length}
+use Rattle.std.proofs.Common.{◌≡◌, ◌∙◌, ℕ, List, Option, None, Some, ap, refl, sym, subst}
+use Rattle.std.specs.Prelude.{◌*◌, ◌/◌, length}
 use Rattle.std.specs.Borrow.{Bor}
-use Rattle.hfs_commands.specs.OpenedFiles.{IsLaidOut, IsWholeRange, failures_of, files_of, held_bytes, images_of, opened_layout, range_by, stored_failures, stored_images}
-use Rattle.hfs_commands.specs.Parts.{IsAskedPart, IsWholeAt, asked_at}
+use Rattle.hfs_commands.specs.OpenedFiles.{IsLaidOut, IsWholeRange, failures_of, files_of, images_of, opened_layout, range_by, stored_failures, stored_images}
+use Rattle.hfs_commands.specs.Parts.{IsWholeAt}
 use Rattle.hfs_commands.specs.declared.opened_file.OpenedFile.{OpenedFile}
 use Rattle.hfs_commands.specs.declared.opened_file.OpenedFile.TheVariants.{Plain, Raw}
 use Rattle.hfs_commands.specs.declared.opened_file.StoredFile.{StoredFile}
-use Rattle.hfs_commands.specs.declared.volume_files.FilePart.{FilePart}
 use Rattle.hfs_commands.specs.Unopened.{TellsPlace}
-use Rattle.hfs_source.specs.Asking.{asked_in}
 use Rattle.hfs_source.specs.Images.{FailsWhere, OfEach}
 use Rattle.hfs_source.specs.Raw.{layout_of}
 use Rattle.hfs_source.specs.Reading.{FailsInData, IsDataOfOne}
@@ -17,7 +15,6 @@ use Rattle.hfs_source.specs.declared.asking.Counted.{Counted}
 use Rattle.hfs_source.specs.declared.asking.NumberedRange.{NumberedRange}
 use Rattle.hfs_source.specs.declared.data.UserData.{UserData}
 use Rattle.hfs_source.specs.declared.ranges.ByteRange.{ByteRange}
-use Rattle.hfs_source.specs.declared.ranges.Layout.{Layout}
 use Rattle.hfs_source.specs.declared.ranges.Layout.TheVariants as layout
 use Rattle.hfs_source.proofs.DataLemmas.{length-user_data_of}
 use Rattle.hfs_commands.specs.declared.fault.Fault.{Fault}
@@ -29,28 +26,6 @@ several_unnamed volume n none = subst (λ (v : Option ℕ). IsUnnamed v (Several
 
 pub missing_unnamed : (volume : Option ℕ) (n : ℕ) → volume ≡ Some n → IsUnnamed volume (NoVolume n)
 missing_unnamed volume n some = subst (λ (v : Option ℕ). IsUnnamed v (NoVolume n)) (sym some) refl
-
--- ---- a part is what is asked for
-
--- something that can't be sought in is taken as it is
-pub pipe_asked : {F : Type 0} (counted : Counted) (part : FilePart F) → held_bytes part.bytes.source ≢ None → part.place ≡ None
-    → opened_layout part.bytes.source ≡ layout.Plain → IsAskedPart counted None part
-pipe_asked counted part held place plain = inl (held, (place, plain))
-
--- and so is any file by the number 0
-pub whole_asked : {F : Type 0} (counted : Counted) (part : FilePart F) → part.place ≡ None → opened_layout part.bytes.source ≡ layout.Plain
-    → IsAskedPart counted (Some 0) part
-whole_asked counted part place plain = inl (refl, (place, plain))
-
--- what is found in a file is what is asked for of it
-pub part_asked : {F : Type 0} (layout : Layout) (counted : Counted) (volume : Option ℕ) (part : FilePart F) → volume ≢ Some 0 → IsLaidOut part.bytes.source
-    → opened_layout part.bytes.source ≡ layout → OfEach (images_of part.bytes.source) (λ bytes. asked_at part.place ≡ asked_in layout counted volume bytes)
-    → IsAskedPart counted volume part
-part_asked layout counted volume part other laid same is =
-    inr (
-      other,
-      (laid, subst (λ (l : Layout). OfEach (images_of part.bytes.source) (λ bytes. asked_at part.place ≡ asked_in l counted volume bytes)) (sym same) is),
-    )
 
 -- ---- where there is no place, it has all bytes
 

@@ -1,9 +1,9 @@
 -- What is told of a file of which nothing was opened.
-use Rattle.std.proofs.Common.{◌≡◌, ◌∷◌, ℕ, List, Option, None, Some, ap, refl, subst, sym, inl, inr}
+use Rattle.std.proofs.Common.{◌≡◌, ◌∷◌, ℕ, List, Option, ap, refl, subst, sym, inl, inr}
 use Rattle.std.specs.Borrow.{Bor}
 use Rattle.hfs_check.specs.declared.mount_fault.MountFault.TheVariants as mount
 use Rattle.hfs_commands.specs.declared.fault.Fault.{Fault}
-use Rattle.hfs_commands.specs.declared.fault.Fault.TheVariants.{CannotRead, NoMemory, NotWritten, Refused}
+use Rattle.hfs_commands.specs.declared.fault.Fault.TheVariants.{CannotRead, NoMemory, NotWritten}
 use Rattle.hfs_commands.specs.declared.opened_file.OpenedFile.{OpenedFile}
 use Rattle.hfs_commands.specs.declared.opened_file.OpenedFile.TheVariants.{Raw}
 use Rattle.hfs_commands.specs.declared.opened_file.StoredFile.{StoredFile}
@@ -23,13 +23,10 @@ use Rattle.hfs_source.specs.Images.{OfEach}
 use Rattle.hfs_source.specs.Steps.{ReadStep, place_after, went}
 use Rattle.hfs_source.specs.declared.asking.Asked.{Asked}
 use Rattle.hfs_source.specs.declared.asking.Counted.{Counted}
-use Rattle.hfs_source.specs.declared.asking.NumberedRange.{NumberedRange}
 use Rattle.hfs_source.specs.declared.fetching.SparseFault.{SparseFault}
 use Rattle.hfs_source.specs.declared.fetching.SparseFault.TheVariants as sparse
 use Rattle.hfs_source.specs.declared.data.UserData.{UserData}
 use Rattle.hfs_source.specs.declared.ranges.Layout.{Layout}
-use Rattle.hfs_source.specs.declared.ranges.Layout.TheVariants as layout
-use Rattle.hfs_source.specs.Raw.{layout_of}
 use Rattle.hfs_texts.specs.declared.input.LoadFault.{LoadFault}
 use Rattle.hfs_texts.specs.declared.input.LoadFault.TheVariants as load
 
