@@ -1,6 +1,6 @@
 -- Files whose bytes are held, which reads leave as they are.
-use Rattle.std.proofs.Common.{◌≡◌, ◌∙◌, ℕ, List, Option, None, Some, ap, refl, subst, sym, inr, arith, ⊎_elim}
-use Rattle.std.specs.Prelude.{IfSome, length}
+use Rattle.std.proofs.Common.{◌≡◌, ◌∙◌, ℕ, List, Option, None, Some, ap, refl, subst, inr, arith, ⊎_elim}
+use Rattle.std.specs.Prelude.{IfSome}
 use Rattle.std.specs.Option.{option_map}
 use Rattle.std.specs.Arc.{arc_value}
 use Rattle.hfs_source.specs.Images.{FailsWhere, OfEach}

@@ -1,5 +1,5 @@
 -- Bytes that are written one behind the other, also where writing ends in them.
-use Rattle.std.proofs.Common.{◌≡◌, subst, ℕ, List, ◌++◌, length, replicate, Option, Result, Ok, Err, OnOk, OnErr, IfOk}
+use Rattle.std.proofs.Common.{◌≡◌, subst, ℕ, List, ◌++◌, length, replicate, Option}
 use Rattle.std.specs.Io.KnownBytes.{Appends}
 use Rattle.std.proofs.KnownBytes.{Appends-trans}
 use Rattle.hfs_texts.proofs.FrontLemmas.{front_first, front_next}

@@ -1,5 +1,5 @@
 -- What is told of the names that were taken, name by name.
-use Rattle.std.proofs.Common.{◌≡◌, ◌≢◌, ◌++◌, codes, Result, Ok, Err, IfOk, ℕ, zero, suc, ◌+◌, ◌<◌, List, Option, Some, refl, ap, sym, ◌∙◌, append_assoc, arith}
+use Rattle.std.proofs.Common.{◌≡◌, ◌≢◌, ◌++◌, codes, ℕ, zero, suc, ◌+◌, ◌<◌, List, Option, Some, refl, ap, sym, ◌∙◌, append_assoc, arith}
 use Rattle.std.specs.Fmt.{decimal}
 use Rattle.hfs_commands.specs.Paths.{path_beside, taken_before}
 

@@ -1,9 +1,9 @@
 -- What is told of a file of which nothing was opened.
-use Rattle.std.proofs.Common.{◌≡◌, ◌∷◌, ℕ, List, Option, None, Some, ap, refl, subst, sym, inl, inr}
+use Rattle.std.proofs.Common.{◌≡◌, ◌∷◌, ℕ, List, Option, ap, refl, subst, sym, inl, inr}
 use Rattle.std.specs.Borrow.{Bor}
 use Rattle.hfs_check.specs.declared.mount_fault.MountFault.TheVariants as mount
 use Rattle.hfs_commands.specs.declared.fault.Fault.{Fault}
-use Rattle.hfs_commands.specs.declared.fault.Fault.TheVariants.{CannotRead, NoMemory, NotWritten, Refused}
+use Rattle.hfs_commands.specs.declared.fault.Fault.TheVariants.{CannotRead, NoMemory, NotWritten}
 use Rattle.hfs_commands.specs.declared.opened_file.OpenedFile.{OpenedFile}
 use Rattle.hfs_commands.specs.declared.opened_file.OpenedFile.TheVariants.{Raw}
 use Rattle.hfs_commands.specs.declared.opened_file.StoredFile.{StoredFile}
@@ -12,10 +12,9 @@ use Rattle.hfs_commands.specs.declared.unopened.LeftFile.{LeftFile}
 use Rattle.hfs_commands.specs.declared.unopened.LeftFile.TheVariants.{Content, Input, Nothing, Part}
 use Rattle.hfs_commands.specs.declared.unopened.UnopenedFile.{UnopenedFile}
 use Rattle.hfs_commands.specs.Faults.{IsRefusal, IsUnopened, KeepsRefusal}
-use Rattle.hfs_commands.specs.OpenedFiles.{images_of, opened_layout, stored_images}
-use Rattle.hfs_commands.specs.Parts.{IsAskedIn, asked_at}
-use Rattle.hfs_commands.specs.SeenFiles.{PartBlocks, parts_of}
-use Rattle.hfs_commands.specs.Unopened.{AreNoPart, HasNoPart, HasRawSectors, IsNoPart, IsReadFault, IsRefusedPart, TellsLeft, TellsPlace, TellsWhy, WasNotRead}
+use Rattle.hfs_commands.specs.OpenedFiles.{AreRaw, IsLaidOut, images_of, opened_layout, stored_images}
+use Rattle.hfs_commands.specs.SeenFiles.{AreSeenOf, PartBlocks, parts_of}
+use Rattle.hfs_commands.specs.Unopened.{AreAmong, AreNoPart, HasNoPart, HasRawSectors, IsNoPart, IsReadFault, IsRefusedOf, TellsLeft, TellsPlace, TellsWhy, WasNotRead}
 use Rattle.hfs_image.specs.declared.opening.NeededFault.{NeededFault}
 use Rattle.hfs_image.specs.declared.opening.NeededFault.TheVariants as needed
 use Rattle.hfs_image.specs.Seen.{IsRefusedBy}
@@ -24,13 +23,10 @@ use Rattle.hfs_source.specs.Images.{OfEach}
 use Rattle.hfs_source.specs.Steps.{ReadStep, place_after, went}
 use Rattle.hfs_source.specs.declared.asking.Asked.{Asked}
 use Rattle.hfs_source.specs.declared.asking.Counted.{Counted}
-use Rattle.hfs_source.specs.declared.asking.NumberedRange.{NumberedRange}
 use Rattle.hfs_source.specs.declared.fetching.SparseFault.{SparseFault}
 use Rattle.hfs_source.specs.declared.fetching.SparseFault.TheVariants as sparse
 use Rattle.hfs_source.specs.declared.data.UserData.{UserData}
 use Rattle.hfs_source.specs.declared.ranges.Layout.{Layout}
-use Rattle.hfs_source.specs.declared.ranges.Layout.TheVariants as layout
-use Rattle.hfs_source.specs.Raw.{layout_of}
 use Rattle.hfs_texts.specs.declared.input.LoadFault.{LoadFault}
 use Rattle.hfs_texts.specs.declared.input.LoadFault.TheVariants as load
 
@@ -101,33 +97,30 @@ pub no_part : (layout : Layout) (counted : Counted) (volume : Option ℕ) (Holds
 no_part layout counted volume Holds asked why is told = λ file holds. subst (λ (a : Asked). IsNoPart a why) (is file holds) told
 
 -- and where the file is handed back, of that
-pub no_part_of : {F : Type 0} (path : Bor (List ℕ)) (layout : Layout) (counted : Counted) (volume : Option ℕ) (file : OpenedFile F) (why : Fault)
-    → opened_layout file ≡ layout → TellsPlace path layout counted volume (images_of file) why
-    → TellsWhy path (HasNoPart counted volume) WasNotRead (record { fault = why; left = Content file })
-no_part_of path layout counted volume file why same told =
-    subst (λ (l : Layout). TellsPlace path l counted volume (images_of file) why) (sym same) told
+pub no_part_handed : {F : Type 0} (path : Bor (List ℕ)) (counted : Counted) (volume : Option ℕ) (file : OpenedFile F) (why : Fault) (unopened : UnopenedFile F)
+    → unopened.fault ≡ why → unopened.left ≡ Content file → IsLaidOut file → TellsPlace path (opened_layout file) counted volume (images_of file) why
+    → TellsWhy path (HasNoPart counted volume) WasNotRead unopened
+no_part_handed path counted volume file why unopened fault left laid (inl read) = inl (subst (IsReadFault path) (sym fault) read)
+no_part_handed path counted volume file why unopened fault left laid (inr none) =
+    inr
+    (subst (λ l. TellsLeft (HasNoPart counted volume) WasNotRead l unopened.fault) (sym left) (subst (HasNoPart counted volume file) (sym fault) (laid, none)))
 
--- what is found in a file is what is asked for of it
-pub asked_of : {F : Type 0} (layout : Layout) (counted : Counted) (volume : Option ℕ) (file : OpenedFile F) (place : Option NumberedRange)
-    → opened_layout file ≡ layout → OfEach (images_of file) (λ bytes. asked_at place ≡ asked_in layout counted volume bytes) → IsAskedIn counted volume file place
-asked_of layout counted volume file place same is =
-    subst (λ (l : Layout). OfEach (images_of file) (λ bytes. asked_at place ≡ asked_in l counted volume bytes)) (sym same) is
-
--- by the number 0 the file is asked for as it is
-pub whole_asked : {F : Type 0} (counted : Counted) (file : OpenedFile F) → IsAskedIn counted (Some 0) file None
-unfolding asked_in
-whole_asked counted file = λ bytes holds. refl
+-- what is handed back is among what was given
+pub handed_among : {F : Type 0} (Holds : List ℕ → Type 0) (file : OpenedFile F) (unopened : UnopenedFile F) → unopened.left ≡ Content file
+    → OfEach (images_of file) Holds → AreAmong Holds unopened.left
+handed_among Holds file unopened left held = subst (AreAmong Holds) (sym left) held
 
 -- the user data of a file of raw sectors isn't written
 pub raw_sectors : {F : Type 0} (path : Bor (List ℕ)) (TellsPart : PartBlocks F → Fault → Type 0) (user : UserData (StoredFile F))
-    → OfEach (stored_images user.bytes) (λ bytes. layout.Raw ≡ layout_of bytes)
-    → TellsWhy path HasRawSectors TellsPart (record { fault = NotWritten; left = Content (Raw user) })
-raw_sectors path TellsPart user raw = inr (refl, λ image of. (of.0, sym (raw of.0 of.1), of.2))
+    → AreRaw (stored_images user.bytes) → TellsWhy path HasRawSectors TellsPart (record { fault = NotWritten; left = Content (Raw user) })
+raw_sectors path TellsPart user raw = inr (refl, refl, raw)
 
 -- an image that isn't opened by its blocks is refused, or it wasn't read
 pub refused_part : {F : Type 0} (path : Bor (List ℕ)) (Tells : OpenedFile F → Fault → Type 0) (part : PartBlocks F) (why : NeededFault) (found : Fault)
     → (why ≡ needed.ReadFailed → found ≡ CannotRead path) → (why ≡ needed.Memory → found ≡ NoMemory) → KeepsRefusal why found
-    → OfEach (parts_of part.blocks) (IsRefusedBy why) → TellsWhy path Tells IsRefusedPart (record { fault = found; left = Part part })
-refused_part path Tells part needed.ReadFailed found read memory keeps refused = inl (inl (read refl))
-refused_part path Tells part needed.Memory found read memory keeps refused = inl (inr (memory refl))
-refused_part path Tells part (needed.Refused why) found read memory keeps refused = inr (why, keeps why refl, λ image holds. refused image holds why refl)
+    → OfEach (parts_of part.blocks) (IsRefusedBy why) → (counted : Counted) (volume : Option ℕ) → AreSeenOf counted volume part.blocks
+    → TellsWhy path Tells (IsRefusedOf counted volume) (record { fault = found; left = Part part })
+refused_part path Tells part needed.ReadFailed found read memory keeps refused counted volume seen = inl (inl (read refl))
+refused_part path Tells part needed.Memory found read memory keeps refused counted volume seen = inl (inr (memory refl))
+refused_part path Tells part (needed.Refused why) found read memory keeps refused counted volume seen =
+    inr (seen, (why, keeps why refl, λ image holds. refused image holds why refl))

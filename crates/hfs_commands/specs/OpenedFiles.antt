@@ -2,7 +2,7 @@
 use Rattle.std.specs.Prelude.{◌≡◌, ⊤, ℕ, ◌+◌, ◌*◌, ◌/◌, ◌<◌, List, length, IfSome, Option, None, Some}
 use Rattle.std.specs.Option.{option_map}
 use Rattle.std.specs.Arc.{arc_value}
-use Rattle.hfs_source.specs.Images.{OfEach}
+use Rattle.hfs_source.specs.Images.{HasLength, OfEach}
 use Rattle.hfs_source.specs.Steps.{IsReadFrom}
 use Rattle.hfs_source.specs.Reading.{FailsInData, IsDataOfOne}
 use Rattle.hfs_source.specs.Sectors.{other_count, sector_count, user_data_of}
@@ -10,6 +10,7 @@ use Rattle.hfs_source.specs.declared.ranges.ByteRange.{ByteRange}
 use Rattle.hfs_source.specs.declared.ranges.Layout.{Layout}
 use Rattle.hfs_source.specs.declared.ranges.Layout.TheVariants as layout
 use Rattle.hfs_source.specs.Ranges.{range_of}
+use Rattle.hfs_source.specs.Raw.{layout_of}
 use Rattle.hfs_commands.specs.declared.opened_file.OpenedFile.{OpenedFile}
 use Rattle.hfs_commands.specs.declared.opened_file.OpenedFile.TheVariants.{Plain, Raw}
 use Rattle.hfs_commands.specs.declared.opened_file.StoredFile.{StoredFile}
@@ -63,6 +64,22 @@ failures_of (Raw user) place count = FailsInData (stored_failures user.bytes) us
 abbrev pub opened_layout : {F : Type 0} → OpenedFile F → Layout
 opened_layout (Plain file) = layout.Plain
 opened_layout (Raw user) = layout.Raw
+
+-- these files are of raw sectors
+abbrev pub AreRaw : (List ℕ → Type 0) → Type 0
+AreRaw Holds = OfEach Holds (λ bytes. layout.Raw ≡ layout_of bytes)
+
+-- or they aren't
+abbrev pub ArePlain : (List ℕ → Type 0) → Type 0
+ArePlain Holds = OfEach Holds (λ bytes. layout.Plain ≡ layout_of bytes)
+
+-- each file that has the bytes which were read is laid out as it is told
+abbrev pub IsLaidOut : {F : Type 0} → OpenedFile F → Type 0
+IsLaidOut file = OfEach (files_of file) (λ bytes. opened_layout file ≡ layout_of bytes)
+
+-- the range is all of each of these
+abbrev pub IsWholeRange : (List ℕ → Type 0) → ByteRange → Type 0
+IsWholeRange Holds range = (range.start ≡ 0) × OfEach Holds (HasLength range.len)
 
 -- the user data is that of as many sectors as this file has
 abbrev pub HasSectorsOf : {F : Type 0} → OpenedFile F → List ℕ → Type 0

@@ -3,12 +3,15 @@ use Rattle.std.specs.Prelude.{◌≡◌, ◌⊎◌, ℕ, ◌+◌, List, Option}
 use Rattle.std.specs.Borrow.{Bor}
 use Rattle.hfs_check.specs.declared.mount_fault.MountFault.{MountFault}
 use Rattle.hfs_source.specs.declared.ranges.ByteRange.{ByteRange}
-use Rattle.hfs_source.specs.Images.{EndsBefore, IsRangeOf, OfEach}
+use Rattle.hfs_source.specs.Images.{EndsBefore, IsRangeOf, OfEach, ReachesTo}
+use Rattle.hfs_source.specs.declared.asking.Counted.{Counted}
 use Rattle.hfs_source.specs.declared.blocks.BlocksOf.{BlocksOf}
 use Rattle.hfs_source.specs.declared.range.RangeBytes.{RangeBytes}
 use Rattle.hfs_source.specs.declared.seen_blocks.SeenBlocks.{SeenBlocks}
+use Rattle.hfs_source.specs.declared.window.Window.{Window}
 use Rattle.hfs_commands.specs.Faults.{IsUnopened}
 use Rattle.hfs_commands.specs.OpenedFiles.{images_of}
+use Rattle.hfs_commands.specs.Parts.{IsAskedWindow}
 use Rattle.hfs_commands.specs.declared.fault.Fault.{Fault}
 use Rattle.hfs_commands.specs.declared.fault.Fault.TheVariants.{Refused}
 use Rattle.hfs_commands.specs.declared.opened_file.OpenedFile.{OpenedFile}
@@ -25,6 +28,20 @@ PartBlocks F = SeenBlocks (BlocksOf (RangeBytes (OpenedFile F)))
 -- that part of each file that has the bytes which were read
 abbrev pub parts_of : {F : Type 0} → BlocksOf (RangeBytes (OpenedFile F)) → List ℕ → Type 0
 parts_of blocks = IsRangeOf (images_of blocks.bytes.bytes) blocks.bytes.start blocks.bytes.len
+
+-- these blocks are those of this part of a file, which reaches to their end
+pub record AreBlocksOf {F : Type 0} (part : Window (OpenedFile F)) (blocks : BlocksOf (RangeBytes (OpenedFile F))) : Type 0 where
+  pub bytes : blocks.bytes.bytes ≡ part.source
+  pub range : IsPartOf (images_of part.source) part.range blocks.bytes.start blocks.bytes.len
+  pub inside : OfEach (images_of part.source) (ReachesTo (blocks.bytes.start + blocks.bytes.len))
+
+-- these blocks are what is asked for of a file that was opened, of which more was read since
+pub record AreSeenOf {F : Type 0} (counted : Counted) (volume : Option ℕ) (seen : BlocksOf (RangeBytes (OpenedFile F))) : Type 0 where
+  pub part : Window (OpenedFile F)
+  pub asked : IsAskedWindow counted volume part
+  pub opened : BlocksOf (RangeBytes (OpenedFile F))
+  pub blocks : AreBlocksOf part opened
+  pub narrows : OfEach (parts_of seen) (parts_of opened)
 
 -- what is asked for of a file was not opened, or it is refused
 abbrev pub IsUnseen : Bor (List ℕ) → Option ℕ → Fault → Type 0

@@ -12,7 +12,7 @@ use Rattle.hfs_source.specs.declared.range.RangeBytes.{RangeBytes}
 use Rattle.hfs_source.specs.Asking.{asked_in}
 use Rattle.hfs_source.specs.declared.asking.Asked.TheVariants.{Inside}
 use Rattle.hfs_source.specs.declared.asking.Counted.TheVariants.{Ranges}
-use Rattle.hfs_commands.specs.OpenedFiles.{images_of, opened_layout}
+use Rattle.hfs_commands.specs.OpenedFiles.{IsLaidOut, images_of, opened_layout}
 use Rattle.hfs_commands.specs.Unopened.{HasNoPart, HasRawSectors}
 use Rattle.hfs_commands.specs.declared.opened_file.OpenedFile.{OpenedFile}
 use Rattle.hfs_commands.specs.declared.fault.Fault.{Fault}
@@ -52,7 +52,7 @@ sum_at_of (Some place) = sum_place place.found
 
 -- the sum of the volume with this number is wrong, of each of these files, and so it is told
 abbrev pub HasWrongSum : {F : Type 0} → ℕ → OpenedFile F → Fault → Type 0
-HasWrongSum number file why = (why ≡ SumWrong) × ((place : NumberedRange) × OfEach (images_of file) (λ bytes.
+HasWrongSum number file why = (why ≡ SumWrong) × IsLaidOut file × ((place : NumberedRange) × OfEach (images_of file) (λ bytes.
     (asked_in (opened_layout file) Ranges (Some number) bytes ≡ Inside place) × (has_wrong_sum place.found bytes ≡ true)))
 
 -- a volume with this number isn't opened to be changed: there is none, it lies in raw sectors, or its sum is wrong

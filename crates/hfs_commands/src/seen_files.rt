@@ -1,8 +1,8 @@
 //! Parts of files, whose answers hold for every file consistent with the bytes read.
 ghost use Rattle.std.specs.Prelude.{◌≡◌, ◌+◌, IfErr, IfOk};
 ghost use Rattle.hfs_commands.specs.OpenedFiles.{images_of};
-ghost use Rattle.hfs_commands.specs.SeenFiles.{IsPartOf, IsUnseen, parts_of};
-ghost use Rattle.hfs_commands.specs.Unopened.{HasNoPart, IsRefusedPart, TellsWhy};
+ghost use Rattle.hfs_commands.specs.SeenFiles.{AreSeenOf, IsPartOf, IsUnseen, parts_of};
+ghost use Rattle.hfs_commands.specs.Unopened.{HasNoPart, IsRefusedOf, TellsWhy};
 ghost use Rattle.hfs_image.specs.Seen.{HasNoFault};
 ghost use Rattle.hfs_source.specs.declared.asking.Counted.TheVariants.{Volumes};
 ghost use Rattle.hfs_source.specs.Images.{OfEach, ReachesTo};
@@ -61,8 +61,10 @@ pub fn open_seen<'a, R: Files + AllocGlobal>(
     path: &'a str,
     volume: Option<u64>,
 ) -> Result<PartImage<R::File>, UnopenedFile<'a, R::File>>
+    ensures part { IfOk result (AreSeenOf Volumes volume) }
     ensures sound { IfOk result (λ image. OfEach (parts_of image) HasNoFault) }
-    ensures told { IfErr result (TellsWhy path.entry (HasNoPart Volumes volume) IsRefusedPart) }
+    ensures told { IfErr result (TellsWhy path.entry (HasNoPart Volumes volume)
+        (IsRefusedOf Volumes volume)) }
     ensures fault { IfErr result (λ back. IsUnseen path.entry volume back.fault) }
 {
     let part = open_part(rt, path, volume)?;

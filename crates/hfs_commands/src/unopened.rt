@@ -1,6 +1,6 @@
 //! Why nothing of a file was opened.
 ghost use Rattle.std.specs.Prelude.{◌≡◌};
-ghost use Rattle.hfs_commands.specs.declared.unopened.LeftFile.TheVariants.{Nothing};
+ghost use Rattle.hfs_commands.specs.declared.unopened.LeftFile.TheVariants.{Content, Nothing};
 
 use crate::fault::Fault;
 use crate::opened_file::OpenedFile;
@@ -43,4 +43,16 @@ impl<'a, F: Read + Seek + Drop> From<UnopenedFile<'a, F>> for Fault<'a> {
     fn from(unopened: UnopenedFile<'a, F>) -> Fault<'a> {
         unopened.fault
     }
+}
+
+/// A fault of what was looked for in a file's bytes, with the file.
+pub(crate) fn with_file<'a, F: Read + Seek>(
+    fault: Fault<'a>,
+    file: OpenedFile<F>,
+) -> UnopenedFile<'a, F>
+    ensures fault { result.fault ≡ fault.entry }
+    ensures left { result.left ≡ Content file }
+{
+    let left = LeftFile::Content(file);
+    UnopenedFile { fault, left }
 }

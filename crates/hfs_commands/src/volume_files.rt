@@ -3,17 +3,19 @@ ghost use Rattle.std.specs.Prelude.{◌≡◌, IfErr, IfOk, IfSome, None, Some};
 ghost use Rattle.std.specs.Option.{is_some};
 ghost use Rattle.hfs_source.specs.Asking.{IsAnswerTo, asked_in};
 ghost use Rattle.hfs_source.specs.declared.asking.Counted.TheVariants.{Volumes};
+ghost use Rattle.hfs_source.specs.declared.ranges.Layout.TheVariants.{Plain};
 ghost use Rattle.hfs_commands.specs.Faults.{IsUnopened};
-ghost use Rattle.hfs_commands.specs.OpenedFiles.{StaysHeld, failures_of, held_bytes, held_content, images_of, opened_layout, stored_bytes, stored_images};
-ghost use Rattle.hfs_commands.specs.Parts.{IsAskedPart, IsRangeAt, asked_at};
-ghost use Rattle.hfs_commands.specs.Unopened.{HasNoPart, TellsPlace, TellsWhy, WasNotRead};
+ghost use Rattle.hfs_commands.specs.OpenedFiles.{IsLaidOut, IsWholeRange, StaysHeld, failures_of, held_bytes, held_content, images_of, opened_layout, stored_bytes, stored_images};
+ghost use Rattle.hfs_commands.specs.Parts.{IsAskedPart, IsAskedWindow, IsRangeAt, IsWholeAt, asked_at};
+ghost use Rattle.hfs_commands.specs.Unopened.{AreAmong, HasNoPart, TellsPlace, TellsWhy, WasNotRead};
 ghost use Rattle.hfs_source.specs.Images.{FailsWhere, HasLength, OfEach};
 
 use crate::fault::Fault;
 use crate::files::regular_len;
 use crate::opened_file::{OpenedFile, StoredFile, content_of};
+use crate::raw_file::{raw_data, stored_data};
 use crate::trusted_input::TrustedInput;
-use crate::unopened::{LeftFile, UnopenedFile};
+use crate::unopened::{LeftFile, UnopenedFile, with_file};
 use hfs_source::{
     Asked, ByteRange, Counted, Layout, NumberedRange, PlacedBytes, Window, find_asked,
 };
@@ -53,6 +55,7 @@ pub(crate) fn loaded<'a, F: Read + Seek + Drop>(
 ) -> Result<Window<StoredFile<F>>, UnopenedFile<'a, F>>
     ensures whole { IfOk result (λ held. IfSome (F.remaining file)
         (λ all. stored_bytes held.source ≡ Some all)) }
+    ensures all { IfOk result (λ held. IsWholeRange (stored_images held.source) held.range) }
     ensures told { IfErr result (TellsWhy path.entry WasNotRead WasNotRead) }
 {
     let mut input = TrustedInput::new(file);
@@ -76,7 +79,8 @@ pub(crate) fn opened<'a, F: Read + Seek + Drop>(
     file: F,
     path: &'a str,
 ) -> Result<Window<StoredFile<F>>, UnopenedFile<'a, F>>
-    ensures { IfErr result (TellsWhy path.entry WasNotRead WasNotRead) }
+    ensures all { IfOk result (λ file. IsWholeRange (stored_images file.source) file.range) }
+    ensures told { IfErr result (TellsWhy path.entry WasNotRead WasNotRead) }
 {
     match StoredFile::sought(file) {
         Ok(source) => Ok(whole_file(source)),
@@ -105,7 +109,8 @@ pub fn open_file<'a, R: Files + AllocGlobal>(
     rt: &R,
     path: &'a str,
 ) -> Result<Window<StoredFile<R::File>>, UnopenedFile<'a, R::File>>
-    ensures { IfErr result (TellsWhy path.entry WasNotRead WasNotRead) }
+    ensures all { IfOk result (λ file. IsWholeRange (stored_images file.source) file.range) }
+    ensures told { IfErr result (TellsWhy path.entry WasNotRead WasNotRead) }
 {
     let Ok(mut file) = File::open(rt, path) else {
         return Err(UnopenedFile::from(Fault::CannotRead(path)));
@@ -136,6 +141,8 @@ fn whole_part<F: Read + Seek>(bytes: Window<OpenedFile<F>>) -> FilePart<F>
 
 /// A file as it is.
 fn stored_part<F: Read + Seek>(file: Window<StoredFile<F>>) -> FilePart<F>
+    ensures layout { opened_layout result.bytes.source ≡ Plain }
+    ensures images { OfEach (images_of result.bytes.source) (stored_images file.source) }
     ensures held { held_bytes result.bytes.source ≡ stored_bytes file.source }
     ensures range { result.bytes.range ≡ file.range }
     ensures place { result.place ≡ None }
@@ -175,71 +182,101 @@ pub(crate) fn place_asked<'a, S: PlacedBytes>(
     }
 }
 
-/// Where it lies in the bytes in which volumes are looked for. Faults: as for [`part_of`].
-fn place_in<'a, F: Read + Seek>(
+/// The bytes in which volumes are looked for, and where what is asked for lies in them; `None` is the file as it is.
+#[derive(Drop)]
+pub(crate) struct SearchedFile<F: Read + Seek> {
+    pub(crate) file: OpenedFile<F>,
+    pub(crate) place: Option<NumberedRange>,
+}
+
+/// Where it lies in the bytes in which volumes are looked for. Faults, with the file: as for [`part_of`].
+#[tactic(auto, using(crate::proofs::UnopenedLemmas::no_part_handed, crate::proofs::UnopenedLemmas::handed_among, crate::proofs::PartLemmas::plain_laid))]
+pub(crate) fn place_in<'a, F: Read + Seek + Drop>(
     alloc: Global,
-    file: &mut OpenedFile<F>,
+    file: OpenedFile<F>,
     path: &'a str,
     counted: Counted,
     volume: Option<u64>,
-) -> Result<Option<NumberedRange>, Fault<'a>>
-    ensures asked { IfOk result (λ place. OfEach (images_of file.new)
-        (λ bytes. asked_at place ≡ asked_in (opened_layout file.old) counted volume bytes)) }
-    ensures answer { IfOk result (λ place. IsAnswerTo volume (asked_at place)) }
-    ensures layout { opened_layout file.new ≡ opened_layout file.old }
-    ensures held { OfEach (images_of file.new) (images_of file.old) }
-    ensures later { FailsWhere (failures_of file.new) (failures_of file.old) }
-    ensures told { IfErr result (TellsPlace path.entry (opened_layout file.old) counted volume
-        (images_of file.new)) }
-    ensures fault { IfErr result (IsUnopened path.entry volume) }
+) -> Result<SearchedFile<F>, UnopenedFile<'a, F>>
+    requires { IsLaidOut file }
+    ensures asked { IfOk result (λ found. OfEach (images_of found.file)
+        (λ bytes. asked_at found.place ≡ asked_in (opened_layout file) counted volume bytes)) }
+    ensures answer { IfOk result (λ found. IsAnswerTo volume (asked_at found.place)) }
+    ensures layout { IfOk result (λ found. opened_layout found.file ≡ opened_layout file) }
+    ensures laid_out { IfOk result (λ found. IsLaidOut found.file) }
+    ensures held { IfOk result (λ found. OfEach (images_of found.file) (images_of file)) }
+    ensures later { IfOk result (λ found. FailsWhere (failures_of found.file)
+        (failures_of file)) }
+    ensures told { IfErr result (TellsWhy path.entry (HasNoPart counted volume) WasNotRead) }
+    ensures left { IfErr result (λ back. AreAmong (images_of file) back.left) }
+    ensures fault { IfErr result (λ back. IsUnopened path.entry volume back.fault) }
 {
     match file {
-        OpenedFile::Plain(bytes) => {
-            place_asked(alloc, bytes, Layout::Plain, path, counted, volume)
+        OpenedFile::Plain(mut bytes) => {
+            let place = place_asked(alloc, &mut bytes, Layout::Plain, path, counted, volume);
+            let file = OpenedFile::Plain(bytes);
+            match place {
+                Ok(place) => Ok(SearchedFile { file, place }),
+                Err(fault) => Err(with_file(fault, file)),
+            }
         }
-        OpenedFile::Raw(user) => place_asked(alloc, user, Layout::Raw, path, counted, volume),
+        OpenedFile::Raw(user) => {
+            let mut data = raw_data(user);
+            let place = place_asked(alloc, &mut data, Layout::Raw, path, counted, volume);
+            let file = OpenedFile::Raw(stored_data(data));
+            match place {
+                Ok(place) => Ok(SearchedFile { file, place }),
+                Err(fault) => Err(with_file(fault, file)),
+            }
+        }
     }
 }
 
 /// The part of an opened file that is asked for, given the number of a range in it or none, as [`find_asked`] says. Faults, with
 /// the file: `NoVolume` if there is no such range; `SeveralVolumes` if no number is given and there are several candidates; a
 /// read failed, memory was refused.
-#[tactic(auto, using(crate::proofs::HeldBytes::content_stays))]
-pub fn part_of<'a, F: Read + Seek + Drop>(
+#[tactic(auto, using(crate::proofs::HeldBytes::content_stays, crate::proofs::PartLemmas::whole_at))]
+fn part_of<'a, F: Read + Seek + Drop>(
     alloc: Global,
     file: Window<OpenedFile<F>>,
     path: &'a str,
     counted: Counted,
     volume: Option<u64>,
 ) -> Result<FilePart<F>, UnopenedFile<'a, F>>
+    requires laid_out { IsLaidOut file.source }
+    requires all { IsWholeRange (images_of file.source) file.range }
     ensures asked { IfOk result (λ part. OfEach (images_of part.bytes.source) (λ bytes.
         asked_at part.place ≡ asked_in (opened_layout file.source) counted volume bytes)) }
     ensures answer { IfOk result (λ part. IsAnswerTo volume (asked_at part.place)) }
     ensures layout { IfOk result (λ part. opened_layout part.bytes.source
         ≡ opened_layout file.source) }
+    ensures laid_out { IfOk result (λ part. IsLaidOut part.bytes.source) }
     ensures range { IfOk result (λ part. IsRangeAt part.place part.bytes.range) }
     ensures whole { IfOk result (λ part. part.place ≡ None → part.bytes.range ≡ file.range) }
+    ensures all { IfOk result (λ part. IsWholeAt (images_of part.bytes.source) part.place
+        part.bytes.range) }
     ensures held { IfOk result (λ part. OfEach (images_of part.bytes.source)
         (images_of file.source)) }
     ensures stays { IfOk result (λ part. StaysHeld (held_content file.source)
         (held_content part.bytes.source)) }
+    ensures left { IfErr result (λ back. AreAmong (images_of file.source) back.left) }
     ensures told { IfErr result (TellsWhy path.entry (HasNoPart counted volume) WasNotRead) }
     ensures fault { IfErr result (λ back. IsUnopened path.entry volume back.fault) }
 {
-    let Window { mut source, range } = file;
-    match place_in(alloc, &mut source, path, counted, volume) {
-        Ok(None) => Ok(whole_part(Window { source, range })),
-        Ok(Some(place)) => Ok(FilePart {
+    let Window { source, range } = file;
+    let SearchedFile {
+        file: source,
+        place,
+    } = place_in(alloc, source, path, counted, volume)?;
+    match place {
+        None => Ok(whole_part(Window { source, range })),
+        Some(place) => Ok(FilePart {
             bytes: Window {
                 source,
                 range: place.found.range,
             },
             place: Some(place),
         }),
-        Err(fault) => {
-            let left = LeftFile::Content(source);
-            Err(UnopenedFile { fault, left })
-        }
     }
 }
 
@@ -254,16 +291,18 @@ fn is_held<F: Read + Seek>(file: &StoredFile<F>) -> bool
 }
 
 /// What is taken of an image if no volume is chosen. Something that can't be sought in, such as a pipe, is taken as it is.
-#[tactic(auto, using(crate::proofs::UnopenedLemmas::asked_of))]
 fn chosen_part<'a, F: Read + Seek + Drop>(
     alloc: Global,
     bytes: Window<StoredFile<F>>,
     path: &'a str,
     counted: Counted,
 ) -> Result<FilePart<F>, UnopenedFile<'a, F>>
+    requires all { IsWholeRange (stored_images bytes.source) bytes.range }
     ensures pipe { IfSome (stored_bytes bytes.source) (λ _. IfOk result (λ part. part.place ≡ None)) }
     ensures asked { IfOk result (IsAskedPart counted None) }
     ensures range { IfOk result (λ part. IsRangeAt part.place part.bytes.range) }
+    ensures all { IfOk result (λ part. IsWholeAt (images_of part.bytes.source) part.place
+        part.bytes.range) }
     ensures told { IfErr result (TellsWhy path.entry (HasNoPart counted None) WasNotRead) }
     ensures fault { IfErr result (λ back. IsUnopened path.entry None back.fault) }
 {
@@ -277,7 +316,7 @@ fn chosen_part<'a, F: Read + Seek + Drop>(
 /// Opens what is asked for of an image. With a number, it is that volume in the file, or in the user data of its raw sectors; 0
 /// is the image as it is. Without one, it is what [`find_asked`] chooses if the image can be sought in, and otherwise the image
 /// as it is. What can be sought in is read on demand. Faults, with what was read: as for [`open_file`] and [`part_of`].
-#[tactic(auto, using(crate::proofs::UnopenedLemmas::asked_of, crate::proofs::UnopenedLemmas::whole_asked, crate::proofs::UnopenedLemmas::told_of_file, crate::proofs::UnopenedLemmas::unopened_file))]
+#[tactic(auto, using(crate::proofs::UnopenedLemmas::told_of_file, crate::proofs::UnopenedLemmas::unopened_file))]
 pub fn open_asked<'a, R: Files + AllocGlobal>(
     rt: &R,
     path: &'a str,
@@ -287,6 +326,8 @@ pub fn open_asked<'a, R: Files + AllocGlobal>(
     ensures answer { IfOk result (λ part. IsAnswerTo volume (asked_at part.place)) }
     ensures asked { IfOk result (IsAskedPart counted volume) }
     ensures range { IfOk result (λ part. IsRangeAt part.place part.bytes.range) }
+    ensures all { IfOk result (λ part. IsWholeAt (images_of part.bytes.source) part.place
+        part.bytes.range) }
     ensures told { IfErr result (TellsWhy path.entry (HasNoPart counted volume) WasNotRead) }
     ensures fault { IfErr result (λ back. IsUnopened path.entry volume back.fault) }
 {
@@ -307,6 +348,7 @@ pub fn open_part<'a, R: Files + AllocGlobal>(
     path: &'a str,
     volume: Option<u64>,
 ) -> Result<Window<OpenedFile<R::File>>, UnopenedFile<'a, R::File>>
+    ensures asked { IfOk result (IsAskedWindow Volumes volume) }
     ensures told { IfErr result (TellsWhy path.entry (HasNoPart Volumes volume) WasNotRead) }
     ensures fault { IfErr result (λ back. IsUnopened path.entry volume back.fault) }
 {

@@ -1,6 +1,7 @@
 //! An image that was opened to be changed.
 ghost use Rattle.std.specs.Prelude.{◌≡◌, IfErr, IfOk, None, Some};
 ghost use Rattle.hfs_source.specs.Images.{HasLength, OfEach};
+ghost use Rattle.hfs_commands.specs.OpenedFiles.{ArePlain, IsWholeRange, stored_images};
 ghost use Rattle.hfs_commands.specs.Unopened.{HasRawSectors, TellsWhy, WasNotRead};
 ghost use Rattle.hfs_commands.specs.WatchedImages.{watched_bytes, watched_images};
 
@@ -147,7 +148,8 @@ fn watched<'a, F: Read + Seek + Drop>(
     looks: Option<TrustedLooks<F, StoredFile<F>>>,
     path: &'a str,
 ) -> Result<WatchedImage<F>, UnopenedFile<'a, F>>
-    ensures { IfErr result (TellsWhy path.entry HasRawSectors WasNotRead) }
+    ensures plain { IfOk result (λ image. ArePlain (watched_images image)) }
+    ensures told { IfErr result (TellsWhy path.entry HasRawSectors WasNotRead) }
 {
     let content = content_of(stored, path)?;
     match content.source {
@@ -172,7 +174,9 @@ pub(crate) fn open_looked<'a, R: Files + AllocGlobal>(
     rt: &R,
     path: &'a str,
 ) -> Result<LookedFile<R::File>, UnopenedFile<'a, R::File>>
-    ensures { IfErr result (TellsWhy path.entry WasNotRead WasNotRead) }
+    ensures all { IfOk result (λ looked. IsWholeRange (stored_images looked.bytes.source)
+        looked.bytes.range) }
+    ensures told { IfErr result (TellsWhy path.entry WasNotRead WasNotRead) }
 {
     let Ok(file) = File::open(rt, path) else {
         return Err(UnopenedFile::from(Fault::CannotRead(path)));
@@ -199,7 +203,8 @@ pub fn open_watched<'a, R: Files + AllocGlobal>(
     rt: &R,
     path: &'a str,
 ) -> Result<WatchedImage<R::File>, UnopenedFile<'a, R::File>>
-    ensures { IfErr result (TellsWhy path.entry HasRawSectors WasNotRead) }
+    ensures plain { IfOk result (λ image. ArePlain (watched_images image)) }
+    ensures told { IfErr result (TellsWhy path.entry HasRawSectors WasNotRead) }
 {
     let LookedFile { bytes, looks } = open_looked(rt, path)?;
     watched(bytes, looks, path)

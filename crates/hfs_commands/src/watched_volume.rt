@@ -2,20 +2,18 @@
 ghost use Rattle.std.specs.Prelude.{◌≡◌, false, IfErr, IfOk, OnOk, Some};
 ghost use Rattle.hfs_source.specs.Asking.{IsAnswerTo, asked_in};
 ghost use Rattle.hfs_source.specs.declared.asking.Counted.TheVariants.{Ranges};
-ghost use Rattle.hfs_source.specs.declared.ranges.Layout.TheVariants.{Plain, Raw};
+ghost use Rattle.hfs_source.specs.declared.ranges.Layout.TheVariants.{Plain};
 ghost use Rattle.hfs_source.specs.Images.{FailsWhere, OfEach};
 ghost use Rattle.hfs_commands.specs.Faults.{IsUnopenedVolume};
-ghost use Rattle.hfs_commands.specs.OpenedFiles.{StaysHeld, stored_bytes, stored_images};
-ghost use Rattle.hfs_commands.specs.Parts.{asked_at};
+ghost use Rattle.hfs_commands.specs.OpenedFiles.{ArePlain, AreRaw, IsWholeRange, StaysHeld, stored_bytes, stored_images};
+ghost use Rattle.hfs_commands.specs.Parts.{IsRangeAt, IsWholeAt, asked_at};
 ghost use Rattle.hfs_commands.specs.Unopened.{TellsWhy, WasNotRead};
 ghost use Rattle.hfs_commands.specs.WatchedVolumes.{HasNoVolume, IsWrongSum, has_wrong_sum, has_wrong_sum_at, lies_in, range_at, sum_at_of};
-ghost use Rattle.hfs_commands.specs.declared.unopened.LeftFile.TheVariants.{Content};
-ghost use Rattle.hfs_source.specs.Raw.{layout_of};
 
 use crate::fault::Fault;
 use crate::opened_file::{OpenedFile, StoredFile, content_of};
-use crate::unopened::{LeftFile, UnopenedFile};
-use crate::volume_files::place_asked;
+use crate::unopened::{UnopenedFile, with_file};
+use crate::volume_files::{place_asked, place_in};
 use crate::watched_image::{LookedFile, WatchedImage, open_looked};
 use crate::watched_range::WatchedRange;
 use hfs_source::{
@@ -67,17 +65,8 @@ fn need_right_sum<'a, S: PlacedBytes>(
     }
 }
 
-/// A fault of what was looked for in a file's bytes, with the file.
-fn with_file<'a, F: Read + Seek>(fault: Fault<'a>, file: OpenedFile<F>) -> UnopenedFile<'a, F>
-    ensures fault { result.fault ≡ fault.entry }
-    ensures left { result.left ≡ Content file }
-{
-    let left = LeftFile::Content(file);
-    UnopenedFile { fault, left }
-}
-
 /// The volume with this number in a file's bytes. Faults: as for [`open_volume`].
-#[tactic(auto, using(crate::proofs::HeldBytes::stays_held, crate::proofs::UnopenedVolumes::no_volume, crate::proofs::UnopenedVolumes::wrong_sum, crate::proofs::UnopenedVolumes::same_fault, crate::proofs::UnopenedVolumes::sum_fault))]
+#[tactic(auto, using(crate::proofs::HeldBytes::stays_held, crate::proofs::UnopenedVolumes::wrong_sum, crate::proofs::UnopenedVolumes::same_fault, crate::proofs::UnopenedVolumes::sum_fault, crate::proofs::UnopenedVolumes::placed_range, crate::proofs::UnopenedVolumes::placed_whole, crate::proofs::PartLemmas::plain_laid))]
 fn volume_in<'a, F: Read + Seek + Drop>(
     alloc: Global,
     file: Window<StoredFile<F>>,
@@ -85,11 +74,17 @@ fn volume_in<'a, F: Read + Seek + Drop>(
     path: &'a str,
     number: u64,
 ) -> Result<WatchedVolume<F>, UnopenedFile<'a, F>>
+    requires plain { ArePlain (stored_images file.source) }
+    requires all { IsWholeRange (stored_images file.source) file.range }
+    ensures plain { IfOk result (λ volume. ArePlain (stored_images volume.blocks.bytes.bytes.file)) }
     ensures asked { IfOk result (λ volume. OfEach (stored_images volume.blocks.bytes.bytes.file)
         (λ bytes. asked_at volume.place ≡ asked_in Plain Ranges (Some number) bytes)) }
     ensures answer { IfOk result (λ volume. IsAnswerTo (Some number) (asked_at volume.place)) }
     ensures lies { IfOk result (λ volume. lies_in volume.blocks.bytes
         ≡ range_at volume.place file.range) }
+    ensures range { IfOk result (λ volume. IsRangeAt volume.place (lies_in volume.blocks.bytes)) }
+    ensures all { IfOk result (λ volume. IsWholeAt (stored_images volume.blocks.bytes.bytes.file)
+        volume.place (lies_in volume.blocks.bytes)) }
     ensures sum_at { IfOk result (λ volume. volume.sum_at ≡ sum_at_of volume.place) }
     ensures right { IfOk result (λ volume. OfEach (stored_images volume.blocks.bytes.bytes.file)
         (λ bytes. false ≡ has_wrong_sum_at volume.place bytes)) }
@@ -131,28 +126,27 @@ fn volume_in<'a, F: Read + Seek + Drop>(
 
 /// Why a volume with this number in the user data of raw sectors can't be opened to be changed: there is none, or it is never
 /// written.
-#[tactic(auto, using(crate::proofs::UnopenedVolumes::no_volume, crate::proofs::UnopenedVolumes::same_fault, crate::proofs::UnopenedVolumes::raw_told))]
+#[tactic(auto, using(crate::proofs::UnopenedVolumes::missing_volume, crate::proofs::UnopenedVolumes::raw_volume, crate::proofs::UnopenedVolumes::raw_told))]
 fn raw_fault<'a, F: Read + Seek + Drop>(
     alloc: Global,
     user: UserData<StoredFile<F>>,
     path: &'a str,
     number: u64,
 ) -> UnopenedFile<'a, F>
-    requires { OfEach (stored_images user.bytes) (λ bytes. layout_of bytes ≡ Raw) }
+    requires { AreRaw (stored_images user.bytes) }
     ensures told { TellsWhy path.entry (HasNoVolume number) WasNotRead result }
     ensures fault { IsUnopenedVolume path.entry number result.fault }
 {
-    let mut user = user;
-    let (layout, ranges) = (Layout::Raw, Counted::Ranges);
-    match place_asked(alloc, &mut user, layout, path, ranges, Some(number)) {
-        Ok(_) => with_file(Fault::NotWritten, OpenedFile::Raw(user)),
-        Err(fault) => with_file(fault, OpenedFile::Raw(user)),
+    let user = OpenedFile::Raw(user);
+    match place_in(alloc, user, path, Counted::Ranges, Some(number)) {
+        Ok(found) => with_file(Fault::NotWritten, found.file),
+        Err(back) => back,
     }
 }
 
 /// Opens the volume with this number in a file, counted from 1, to write the file again with changes to that volume; 0 is the
 /// file as it is. The file is opened as by [`open_watched`](crate::open_watched). Faults, with what was read: as for
-/// [`open_file`](crate::open_file) and [`part_of`](crate::part_of); `NotWritten` if it lies in raw CD sectors; `SumWrong` if the
+/// [`open_file`](crate::open_file), and `NoVolume` if there is none; `NotWritten` if it lies in raw CD sectors; `SumWrong` if the
 /// file is a disk copy whose sum isn't that of its data.
 #[tactic(auto, using(crate::proofs::UnopenedLemmas::told_of_file, crate::proofs::UnopenedLemmas::unopened_file))]
 pub fn open_volume<'a, R: Files + AllocGlobal>(
@@ -160,7 +154,16 @@ pub fn open_volume<'a, R: Files + AllocGlobal>(
     path: &'a str,
     number: u64,
 ) -> Result<WatchedVolume<R::File>, UnopenedFile<'a, R::File>>
+    ensures plain { IfOk result (λ volume. ArePlain (stored_images volume.blocks.bytes.bytes.file)) }
+    ensures asked { IfOk result (λ volume. OfEach (stored_images volume.blocks.bytes.bytes.file)
+        (λ bytes. asked_at volume.place ≡ asked_in Plain Ranges (Some number) bytes)) }
     ensures answer { IfOk result (λ volume. IsAnswerTo (Some number) (asked_at volume.place)) }
+    ensures range { IfOk result (λ volume. IsRangeAt volume.place (lies_in volume.blocks.bytes)) }
+    ensures all { IfOk result (λ volume. IsWholeAt (stored_images volume.blocks.bytes.bytes.file)
+        volume.place (lies_in volume.blocks.bytes)) }
+    ensures sum_at { IfOk result (λ volume. volume.sum_at ≡ sum_at_of volume.place) }
+    ensures right { IfOk result (λ volume. OfEach (stored_images volume.blocks.bytes.bytes.file)
+        (λ bytes. false ≡ has_wrong_sum_at volume.place bytes)) }
     ensures told { IfErr result (TellsWhy path.entry (HasNoVolume number) WasNotRead) }
     ensures fault { IfErr result (λ back. IsUnopenedVolume path.entry number back.fault) }
 {

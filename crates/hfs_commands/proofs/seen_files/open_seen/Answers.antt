@@ -1,4 +1,4 @@
--- What is told of the blocks that are handed back.
+-- The blocks that are handed back, or that the volume lies in, are those of what was asked for.
 use Rattle.hfs_commands.specs.Unopened.{HasNoPart}
 use Rattle.hfs_commands.proofs.UnopenedLemmas.{refused_part}
 use Rattle.hfs_commands.proofs.seen_files.open_seen.Goals as goal
@@ -6,5 +6,24 @@ use Rattle.hfs_source.specs.declared.asking.Counted.TheVariants.{Volumes}
 
 pub returns-in-Err-clause-told : goal.returns-in-Err-clause-told
 returns-in-Err-clause-told g c =
+    let source = c.part_blocks.result in
     refused_part c.args.path (HasNoPart Volumes c.args.volume) c.in-Err.field-0.source c.in-Err.field-0.fault c.of_needed-fault.result
-    c.of_needed-fault.ensures.read c.of_needed-fault.ensures.memory c.of_needed-fault.ensures.refused c.in-Err.ensures.refused
+    c.of_needed-fault.ensures.read c.of_needed-fault.ensures.memory c.of_needed-fault.ensures.refused c.in-Err.ensures.refused Volumes c.args.volume
+    (record {
+      part = c.in_ok-part.part;
+      asked = c.in_ok-part.ensures.asked;
+      opened = source.blocks;
+      blocks = record { bytes = c.part_blocks.ensures.bytes; range = c.part_blocks.ensures.part; inside = c.part_blocks.ensures.inside };
+      narrows = c.in-Err.ensures.back;
+    })
+
+pub returns-in-Ok-clause-part : goal.returns-in-Ok-clause-part
+returns-in-Ok-clause-part g c =
+    let source = c.part_blocks.result in
+    record {
+      part = c.in_ok-part.part;
+      asked = c.in_ok-part.ensures.asked;
+      opened = source.blocks;
+      blocks = record { bytes = c.part_blocks.ensures.bytes; range = c.part_blocks.ensures.part; inside = c.part_blocks.ensures.inside };
+      narrows = c.in-Ok.ensures.narrows;
+    }
