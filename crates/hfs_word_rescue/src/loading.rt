@@ -118,16 +118,9 @@ fn out_of_range<S: PlacedBlocks + Drop>(image: RescuedImage<S>) -> Unloaded<'sta
     ensures fault { result.fault ≡ Fault.Refused MountFault.Short }
     ensures source { result.source ≡ image.source }
 {
-    let RescuedImage {
-        source,
-        len: _,
-        line: _,
-        check: _,
-        finds: _,
-    } = image;
     Unloaded {
         fault: Fault::Refused(MountFault::Short),
-        source,
+        source: image.into_source(),
     }
 }
 
