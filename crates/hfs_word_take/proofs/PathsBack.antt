@@ -49,9 +49,9 @@ unfolding mac_path
 path-name [] name b h = append-nil (plain_text (name ++ b ∷ [])) ∙ name-more name b h ∙ ap (λ (t : List ℕ). t ++ b ∷ []) (sym (append-nil (plain_text name)))
 path-name (first ∷ names) name b h =
     let last : (n : List ℕ) → behind (names ++ n ∷ []) ≡ (behind names ++ codes ":") ++ plain_text n = λ n.
-        flat_map-append (λ (name : List ℕ). codes ":" ++ plain_text name) names (n ∷ [])
-        ∙ ap (λ (t : List ℕ). behind names ++ t) (append-nil (codes ":" ++ plain_text n))
-        ∙ sym (append_assoc (behind names) (codes ":") (plain_text n)) in
+    flat_map-append (λ (name : List ℕ). codes ":" ++ plain_text name) names (n ∷ [])
+    ∙ ap (λ (t : List ℕ). behind names ++ t) (append-nil (codes ":" ++ plain_text n))
+    ∙ sym (append_assoc (behind names) (codes ":") (plain_text n)) in
     let start : List ℕ = behind names ++ codes ":" in
     ap (λ (t : List ℕ). plain_text first ++ t) (last (name ++ b ∷ []) ∙ ap (λ (t : List ℕ). start ++ t) (name-more name b h)
     ∙ sym (append_assoc start (plain_text name) (b ∷ [])) ∙ ap (λ (t : List ℕ). t ++ b ∷ []) (sym (last name)))

@@ -1,5 +1,5 @@
 //! The word that takes the items off a disk.
-ghost use Rattle.std.specs.Prelude.{◌∷◌, false, IfErr, IfOk, string_bytes};
+ghost use Rattle.std.specs.Prelude.{◌≡◌, ◌∷◌, false, IfErr, IfOk, string_bytes};
 ghost use Rattle.std.specs.Option.{option_map};
 ghost use Rattle.hfs_bag.specs.Sums.{IsSumOf};
 ghost use Rattle.hfs_word_take.specs.Items.{bag_items, entries_in};
