@@ -27,7 +27,7 @@ returns-in-Err-answer-clause-fault g c =
     let new = string_bytes {Z = Global} c.in-Ok.shelf.folder in
     let fault = subst (λ (r : Result RescueAnswer BagFault). IfErr r (IsUnfilled (TellsWithin new) (g.S.PlacedBlocks.Holds c.give_remains-answer.result.source.blocks) image.len line c.args.words.now)) c.in-Err-answer.is
     c.give_remains-answer.ensures.fault in
-    stays_told (as_take_words c.args.words.now) c.of_bag-told.result c.take_away.result.fault c.take_away.ensures.fault
+    stays_told (as_take_words c.args.words.now) c.of_bag-told.result c.take_away-fault.result.fault c.take_away-fault.ensures.fault
     (of_bag (as_take_words c.args.words.now) c.in-Err-answer.fault c.of_bag-told.result new c.in-Ok.ensures.beside
     (λ why same. subst (IsUnfilled (TellsWithin new) (g.S.PlacedBlocks.Holds c.give_remains-answer.result.source.blocks) image.len line c.args.words.now) same fault)
     c.of_bag-told.ensures)
@@ -43,10 +43,10 @@ returns-in-Err-answer-clause-away g c =
     let filled = c.give_remains-answer.new.shelf in
     let Ungiven = IsUngiven (g.S.PlacedBlocks.Holds c.give_remains-answer.result.source.blocks) image.len (option_map (string_bytes {Z = Global}) image.line) c.args.words.now in
     let given = subst (λ (r : Result RescueAnswer BagFault). IfErr r (Ungiven new)) c.in-Err-answer.is c.give_remains-answer.ensures.fault in
-    bag_away words Ungiven new (string_bytes {Z = Global} filled.folder) c.take_away.result.fault
-    (g.Y.FileSystem.did c.args.system) (g.Y.FileSystem.did c.in-Ok.shelf.system) (g.Y.FileSystem.did filled.system) (g.Y.FileSystem.did c.take_away.result.system)
-    c.give_remains-answer.ensures.place c.in-Ok.ensures.made c.take_away.ensures.away
-    (stays_ungiven words (Ungiven new) c.in-Err-answer.fault c.of_bag-told.result c.take_away.result.fault given c.of_bag-told.ensures c.take_away.ensures.fault)
+    bag_away words Ungiven new (string_bytes {Z = Global} filled.folder) c.take_away-fault.result.fault
+    (g.Y.FileSystem.did c.args.system) (g.Y.FileSystem.did c.in-Ok.shelf.system) (g.Y.FileSystem.did filled.system) (g.Y.FileSystem.did c.take_away-fault.result.system)
+    c.give_remains-answer.ensures.place c.in-Ok.ensures.made c.take_away-fault.ensures.away
+    (stays_ungiven words (Ungiven new) c.in-Err-answer.fault c.of_bag-told.result c.take_away-fault.result.fault given c.of_bag-told.ensures c.take_away-fault.ensures.fault)
 
 pub returns-in-Ok-answer-clause-placed : goal.returns-in-Ok-answer-clause-placed
 returns-in-Ok-answer-clause-placed g c =

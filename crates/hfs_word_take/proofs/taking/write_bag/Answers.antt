@@ -27,7 +27,7 @@ returns-in-Err-sums-clause-fault g c =
     let new = string_bytes {Z = Global} c.in-Ok.shelf.folder in
     let given = subst (λ (sums : Result BagSums BagFault). IfErr sums (IsFillFault (TellsWithin new) (g.S.PlacedBlocks.Holds c.give_image-sums.result.image))) c.in-Err-sums.is
     c.give_image-sums.ensures.fault in
-    stays_told c.args.words.now c.of_bag-told.result c.take_away.result.fault c.take_away.ensures.fault
+    stays_told c.args.words.now c.of_bag-told.result c.take_away-fault.result.fault c.take_away-fault.ensures.fault
     (of_bag c.args.words.now c.in-Err-sums.fault c.of_bag-told.result new c.in-Ok.ensures.beside
     (λ why same. subst (IsFillFault (TellsWithin new) (g.S.PlacedBlocks.Holds c.give_image-sums.result.image)) same given) c.of_bag-told.ensures)
 
@@ -37,11 +37,11 @@ returns-in-Err-sums-clause-away g c =
     let filled = c.give_image-sums.new.shelf in
     let Ungiven = IsUngiven (g.S.PlacedBlocks.Holds c.give_image-sums.result.image) in
     let given = subst (λ (sums : Result BagSums BagFault). IfErr sums (Ungiven new)) c.in-Err-sums.is c.give_image-sums.ensures.fault in
-    bag_away c.args.words.now Ungiven new (string_bytes {Z = Global} filled.folder) c.take_away.result.fault
-    (g.Y.FileSystem.did c.args.system) (g.Y.FileSystem.did c.in-Ok.shelf.system) (g.Y.FileSystem.did filled.system) (g.Y.FileSystem.did c.take_away.result.system)
-    c.give_image-sums.ensures.place c.in-Ok.ensures.made c.take_away.ensures.away
-    (stays_ungiven c.args.words.now (Ungiven new) c.in-Err-sums.fault c.of_bag-told.result c.take_away.result.fault given c.of_bag-told.ensures
-    c.take_away.ensures.fault)
+    bag_away c.args.words.now Ungiven new (string_bytes {Z = Global} filled.folder) c.take_away-fault.result.fault
+    (g.Y.FileSystem.did c.args.system) (g.Y.FileSystem.did c.in-Ok.shelf.system) (g.Y.FileSystem.did filled.system) (g.Y.FileSystem.did c.take_away-fault.result.system)
+    c.give_image-sums.ensures.place c.in-Ok.ensures.made c.take_away-fault.ensures.away
+    (stays_ungiven c.args.words.now (Ungiven new) c.in-Err-sums.fault c.of_bag-told.result c.take_away-fault.result.fault given c.of_bag-told.ensures
+    c.take_away-fault.ensures.fault)
 
 pub returns-in-Ok-place_bag-clause-placed : goal.returns-in-Ok-place_bag-clause-placed
 returns-in-Ok-place_bag-clause-placed g c =
