@@ -1,23 +1,24 @@
 -- A bag that was given is the one that got its place, and one that was not is taken away.
-use Rattle.std.proofs.Common.{◌≡◌, ℕ, Bool, true, false, List, [], ◌∷◌, ◌++◌, Option, Some, Result, Ok, Err, refl, sym, ap, subst, ◌∙◌, inl, inr}
+use Rattle.std.proofs.Common.{◌≡◌, ℕ, List, [], ◌++◌, Option, Some, Result, Ok, Err, ap, subst, inl, inr}
 use Rattle.std.specs.Prelude.{IfErr, IfOk}
+use Rattle.hfs_bag.specs.declared.fault.BagFault.{BagFault}
 use Rattle.hfs_bag.specs.declared.shelf_fault.ShelfFault.{ShelfFault}
 use Rattle.hfs_bag.specs.Entries.{ShelfEntry}
 use Rattle.hfs_bag.specs.Removals.{HasOpenedFolder, IsPlaced}
 use Rattle.hfs_bag.specs.ShelfPlaces.{ShelfPlace, others_in, shelf_place}
-use Rattle.hfs_bag.specs.SystemSteps.{SystemStep, done, looked}
+use Rattle.hfs_bag.specs.SystemSteps.{SystemStep}
 use Rattle.hfs_bag.specs.Told.{Tells}
 use Rattle.hfs_source.specs.Images.{OfEach}
 use Rattle.hfs_source.specs.Seen.{EachKnown}
 use Rattle.hfs_word_take.specs.declared.fault.TakeFault.{TakeFault}
-use Rattle.hfs_word_take.specs.declared.fault.TakeFault.TheVariants as take
 use Rattle.hfs_word_take.specs.TakeFaults.{IsTakeFault, fault_of_shelf}
-use Rattle.hfs_word_take.specs.Placed.{IsAwayFor, IsBagAway, tells_there}
+use Rattle.hfs_word_take.specs.Placed.{IsAwayFor, IsBagAway, IsUnplaced}
+use Rattle.hfs_word_take.specs.declared.words.TakeWords.{TakeWords}
 use Rattle.hfs_word_take.proofs.FaultLemmas.{of_shelf, unplaced}
 use Rattle.hfs_word_take.proofs.PlacedBagLemmas.{bag_away}
 use Rattle.hfs_word_rescue.specs.declared.words.BagWords.{BagWords}
 use Rattle.hfs_word_rescue.specs.Bags.{OfKnownBag}
-use Rattle.hfs_word_rescue.specs.Placed.{IsBagPlaced, IsBagUnplaced}
+use Rattle.hfs_word_rescue.specs.Placed.{IsBagPlaced}
 use Rattle.hfs_word_rescue.specs.Words.{as_take_words}
 
 -- ---- a folder that did not get its place
@@ -50,22 +51,16 @@ pub kept_source : {T E S : Type 0} (source_of : T → S) (source : S) (Holds : S
 kept_source source_of source Holds (Ok placed) same = λ image h. subst (λ s. Holds s image) same h
 kept_source source_of source Holds (Err e) same = tt
 
+pub back_source : {T E S : Type 0} (source_of : E → S) (source : S) (Holds : S → List ℕ → Type 0) (was : List ℕ → Type 0) (came : Result T E)
+    → OfEach (Holds source) was → IfErr came (λ back. source_of back ≡ source) → IfErr came (λ back. OfEach (Holds (source_of back)) was)
+back_source source_of source Holds was (Ok placed) narrows same = tt
+back_source source_of source Holds was (Err back) narrows same = λ image h. narrows image (subst (λ s. Holds s image) same h)
+
 -- and it is taken away where it gets no place
-pub bag-away : {T E : Type 0} (path folder now : List ℕ) (fault : E → TakeFault) (steps : E → List SystemStep) (old opened filled : List SystemStep) (came : Result T E)
-    → shelf_place now filled ≡ shelf_place folder opened → HasOpenedFolder path folder old opened → IfErr came (λ back. IsAwayFor (fault back) now filled (steps back))
-    → IfErr came (λ back. tells_there (fault back) ≡ false) → IfErr came (λ back. IsBagAway path (fault back) old (steps back))
-bag-away path folder now fault steps old opened filled (Ok placed) place is_new away other = tt
-bag-away path folder now fault steps old opened filled (Err back) place is_new away other = bag_away path folder now (fault back) old opened filled (steps back) place is_new away other
-
--- ---- behind a look
-
-pub there : (words : BagWords) (b : Bool) (old new : List SystemStep) → b ≡ true → new ≡ done (looked words.folder.now b) ∷ old
-    → IsBagUnplaced words (take.IsThere words.folder) old new
-there words b old new is steps = inl (refl, steps ∙ ap (λ (b : Bool). done (looked words.folder.now b) ∷ old) is)
-
-pub not-there : {T E : Type 0} (words : BagWords) (b : Bool) (fault : E → TakeFault) (steps : E → List SystemStep) (old seen : List SystemStep) (came : Result T E)
-    → b ≡ false → seen ≡ done (looked words.folder.now b) ∷ old → IfErr came (λ back. IsBagAway words.folder.now (fault back) seen (steps back))
-    → IfErr came (λ back. IsBagUnplaced words (fault back) old (steps back))
-not-there words b fault steps old seen (Ok placed) is looked-is away = tt
-not-there words b fault steps old seen (Err back) is looked-is away = inr
-    (subst (λ (s : List SystemStep). IsBagAway words.folder.now (fault back) s (steps back)) (looked-is ∙ ap (λ (b : Bool). done (looked words.folder.now b) ∷ old) is) away)
+pub bag-away : {T E S : Type 0} (words : TakeWords) (Ungiven : S → List ℕ → BagFault → Type 0) (source_of : E → S) (folder now : List ℕ) (fault : E → TakeFault)
+    (steps : E → List SystemStep) (old opened filled : List SystemStep) (came : Result T E) → shelf_place now filled ≡ shelf_place folder opened
+    → HasOpenedFolder words.folder.now folder old opened → IfErr came (λ back. IsAwayFor (fault back) now filled (steps back))
+    → IfErr came (λ back. IsUnplaced words.folder.now (fault back)) → IfErr came (λ back. IsBagAway words (Ungiven (source_of back)) (fault back) old (steps back))
+bag-away words Ungiven source_of folder now fault steps old opened filled (Ok placed) place is_new away told = tt
+bag-away words Ungiven source_of folder now fault steps old opened filled (Err back) place is_new away told =
+    bag_away words (Ungiven (source_of back)) folder now (fault back) old opened filled (steps back) place is_new away (inr (inl told))

@@ -21,6 +21,7 @@ use Rattle.hfs_rescue_items.specs.Plan.{whole_plan}
 use Rattle.hfs_rescue_items.specs.Sources.{planned_item, rescued_tables}
 use Rattle.hfs_bag.specs.declared.shelf_fault.ShelfFault.{ShelfFault}
 use Rattle.hfs_bag.specs.Entries.{ShelfEntry}
+use Rattle.hfs_bag.specs.Told.{TellsWithin}
 use Rattle.hfs_source.specs.Seen.{EachKnown}
 use Rattle.hfs_word_take.specs.Bags.{IsDigestTold, digest_told, text_in}
 use Rattle.hfs_word_take.specs.Facts.{image_name}
@@ -75,6 +76,10 @@ OfKnownBag known len line words Fact = OfKnown known len (λ image. OfBag image 
 abbrev pub IsUnfilled : (ShelfFault → Type 0) → (List ℕ → Type 0) → ℕ → Option (List ℕ) → BagWords → BagFault → Type 0
 IsUnfilled ShelfGave Holds len line words =
     IsBagFault (λ _. ⊤) ShelfGave (EachKnown Holds (λ known. OfKnownBag known len line words (λ bag. AreTooMany (bytes_in bag))))
+
+-- one of these, where such a folder is filled
+abbrev pub IsUngiven : (List ℕ → Type 0) → ℕ → Option (List ℕ) → BagWords → List ℕ → BagFault → Type 0
+IsUngiven Holds len line words folder = IsUnfilled (TellsWithin folder) Holds len line words
 
 -- ---- before the items are read
 

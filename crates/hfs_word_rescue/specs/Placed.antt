@@ -1,13 +1,10 @@
--- A bag that got its place, or did not.
-use Rattle.std.specs.Prelude.{◌≡◌, ◌⊎◌, ℕ, List, ◌∷◌, Option, true, false}
+-- A bag that got its place.
+use Rattle.std.specs.Prelude.{◌≡◌, ℕ, List, Option}
 use Rattle.hfs_bag.specs.Entries.{ShelfEntry}
 use Rattle.hfs_bag.specs.Removals.{HasOpenedFolder, IsPlaced}
 use Rattle.hfs_bag.specs.ShelfPlaces.{others_in}
-use Rattle.hfs_bag.specs.SystemSteps.{SystemStep, done, looked}
+use Rattle.hfs_bag.specs.SystemSteps.{SystemStep}
 use Rattle.hfs_source.specs.Seen.{EachKnown}
-use Rattle.hfs_word_take.specs.declared.fault.TakeFault.{TakeFault}
-use Rattle.hfs_word_take.specs.declared.fault.TakeFault.TheVariants as take
-use Rattle.hfs_word_take.specs.Placed.{IsBagAway}
 use Rattle.hfs_word_rescue.specs.declared.words.BagWords.{BagWords}
 use Rattle.hfs_word_rescue.specs.Bags.{OfKnownBag}
 
@@ -20,9 +17,3 @@ pub record IsBagPlaced (Holds : List ℕ → Type 0) (len : ℕ) (line : Option 
   pub entries : List ShelfEntry
   pub placed : IsPlaced words.folder.now folder entries (others_in folder opened) steps
   pub bag_is : EachKnown Holds (λ known. OfKnownBag known len line words (λ bag. entries ≡ bag))
-
--- something has the folder's name, and nothing was done but to look; or nothing has it, and what was written is taken away
-abbrev pub IsBagUnplaced : BagWords → TakeFault → List SystemStep → List SystemStep → Type 0
-IsBagUnplaced words fault old new =
-    ((fault ≡ take.IsThere words.folder) × (new ≡ done (looked words.folder.now true) ∷ old))
-    ⊎ IsBagAway words.folder.now fault (done (looked words.folder.now false) ∷ old) new

@@ -77,4 +77,18 @@ impl<S: PlacedBlocks + Drop> RescuedImage<S> {
             }
         }
     }
+
+    /// What it was read from.
+    pub(crate) fn into_source(self) -> SeenBlocks<S>
+        ensures { result ≡ self.source }
+    {
+        let RescuedImage {
+            source,
+            len: _,
+            line: _,
+            check: _,
+            finds: _,
+        } = self;
+        source
+    }
 }

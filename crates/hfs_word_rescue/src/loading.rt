@@ -2,13 +2,12 @@
 ghost use Rattle.std.specs.Prelude.{◌≡◌, IfErr, IfOk, string_bytes};
 ghost use Rattle.std.specs.Option.{option_map};
 ghost use Rattle.hfs_commands.specs.Faults.{IsUnopened};
-ghost use Rattle.hfs_commands.specs.OpenedFiles.{images_of};
 ghost use Rattle.hfs_commands.specs.SeenFiles.{parts_of};
 ghost use Rattle.hfs_commands.specs.Unopened.{HasNoPart, TellsWhy, WasNotRead};
 ghost use Rattle.hfs_image.specs.Failing.{SomeReadFails};
 ghost use Rattle.hfs_source.specs.Images.{OfEach};
 ghost use Rattle.hfs_source.specs.declared.asking.Counted.TheVariants.{Ranges};
-ghost use Rattle.hfs_word_take.specs.Opening.{AreBlocksAt, IsLineOf, TellsSum, TellsSumIn, TellsVolume};
+ghost use Rattle.hfs_word_take.specs.Opening.{AreBlocksAt, IsLineOf, TellsPart, TellsPartIn, TellsVolume};
 ghost use Rattle.hfs_word_rescue.specs.Faults.{HasFailedIn, IsUnfound, IsUnfoundPart, IsUnread, told_fault};
 
 use crate::image::{HoldFault, RescuedImage, Unfound};
@@ -96,7 +95,7 @@ fn find_range<'a, R: Files + AllocGlobal>(
 ) -> Result<FoundRange<R::File>, UnopenedFile<'a, R::File>>
     ensures line { IfOk result (λ found. IsLineOf words.now.volume found.range
         (option_map string_bytes found.line)) }
-    ensures sum { IfOk result (λ found. TellsSum (images_of found.source.blocks.bytes.bytes)
+    ensures found { IfOk result (λ found. TellsPart found.source.blocks.bytes.bytes Ranges
         words.now.volume found.range (option_map string_bytes found.line) found.sum) }
     ensures part { IfOk result (λ found. AreBlocksAt found.range found.source) }
     ensures told { IfErr result (TellsWhy words.now.image (HasNoPart Ranges words.now.volume)
@@ -118,16 +117,9 @@ fn out_of_range<S: PlacedBlocks + Drop>(image: RescuedImage<S>) -> Unloaded<'sta
     ensures fault { result.fault ≡ Fault.Refused MountFault.Short }
     ensures source { result.source ≡ image.source }
 {
-    let RescuedImage {
-        source,
-        len: _,
-        line: _,
-        check: _,
-        finds: _,
-    } = image;
     Unloaded {
         fault: Fault::Refused(MountFault::Short),
-        source,
+        source: image.into_source(),
     }
 }
 
@@ -139,12 +131,12 @@ fn load_range<'a, F: Read + Seek + Drop>(
     words: &RescueWords<'a>,
 ) -> Result<LoadedImage<Part<F>>, Unloaded<'a, Part<F>>>
     requires line { IsLineOf words.now.volume found.range (option_map string_bytes found.line) }
-    requires sum { TellsSum (images_of found.source.blocks.bytes.bytes) words.now.volume
+    requires found { TellsPart found.source.blocks.bytes.bytes Ranges words.now.volume
         found.range (option_map string_bytes found.line) found.sum }
     requires part { AreBlocksAt found.range found.source }
     ensures line { IfOk result (λ loaded. TellsVolume words.now.volume loaded.image.len
         (option_map string_bytes loaded.image.line)) }
-    ensures sum { IfOk result (λ loaded. TellsSumIn (parts_of loaded.image.source.blocks)
+    ensures found { IfOk result (λ loaded. TellsPartIn loaded.image.source.blocks Ranges
         words.now.volume loaded.image.len (option_map string_bytes loaded.image.line) loaded.sum) }
     ensures told { IfErr result (λ back. IsUnfound words.now.image (parts_of back.source.blocks)
         (HasFailedIn found.source) back.fault) }
@@ -178,7 +170,7 @@ pub(crate) fn load_image<'a, R: Files + AllocGlobal>(
 ) -> Result<LoadedImage<Part<R::File>>, UnopenedFile<'a, R::File>>
     ensures line { IfOk result (λ loaded. TellsVolume words.now.volume loaded.image.len
         (option_map string_bytes loaded.image.line)) }
-    ensures sum { IfOk result (λ loaded. TellsSumIn (parts_of loaded.image.source.blocks)
+    ensures found { IfOk result (λ loaded. TellsPartIn loaded.image.source.blocks Ranges
         words.now.volume loaded.image.len (option_map string_bytes loaded.image.line) loaded.sum) }
     ensures told { IfErr result (TellsWhy words.now.image (HasNoPart Ranges words.now.volume)
         IsUnfoundPart) }

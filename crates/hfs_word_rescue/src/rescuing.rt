@@ -1,5 +1,5 @@
 //! The word that rescues what remains of an image.
-ghost use Rattle.std.specs.Prelude.{◌≡◌, ◌⊎◌, ◌∷◌, false, IfErr, IfOk, string_bytes};
+ghost use Rattle.std.specs.Prelude.{◌≡◌, ◌∷◌, false, IfErr, IfOk, string_bytes};
 ghost use Rattle.std.specs.Option.{option_map};
 ghost use Rattle.hfs_bag.specs.MadeFolders.{given_by};
 ghost use Rattle.hfs_bag.specs.Removals.{IsPlaced};
@@ -9,8 +9,9 @@ ghost use Rattle.hfs_word_take.specs.TakeFaults.{IsTakeFault};
 ghost use Rattle.hfs_source.specs.Images.{OfEach};
 ghost use Rattle.hfs_source.specs.Seen.{EachKnown};
 ghost use Rattle.hfs_word_rescue.specs.Answers.{IsKnownAnswer};
-ghost use Rattle.hfs_word_take.specs.Placed.{IsAwayFor, IsBagAway, StaysOrNoMemory, tells_there};
-ghost use Rattle.hfs_word_rescue.specs.Placed.{IsBagPlaced, IsBagUnplaced};
+ghost use Rattle.hfs_word_take.specs.Placed.{IsAwayFor, IsBagAway, IsBagUnplaced, IsUnplaced, StaysOrNoMemory};
+ghost use Rattle.hfs_word_rescue.specs.Bags.{IsUngiven};
+ghost use Rattle.hfs_word_rescue.specs.Placed.{IsBagPlaced};
 ghost use Rattle.hfs_word_rescue.specs.Words.{as_take_words};
 
 use crate::answer::{RescueAnswer, Rescued};
@@ -33,11 +34,19 @@ pub struct PlacedBag<Y, S: PlacedBlocks> {
     pub source: SeenBlocks<S>,
 }
 
-/// Why a bag is not in its place, with the system handed back.
+/// Why a bag is not in its place, the system that it was to be on, and what the image was read from.
 #[derive(Drop)]
-pub struct UnplacedBag<'a, Y> {
+pub struct UnplacedBag<'a, Y, S: PlacedBlocks> {
     pub fault: TakeFault<'a>,
     pub system: Y,
+    pub source: SeenBlocks<S>,
+}
+
+/// Why what was written of a bag was removed, with the system handed back.
+#[derive(Drop)]
+struct RemovedBag<'a, Y> {
+    fault: TakeFault<'a>,
+    system: Y,
 }
 
 /// Gives a whole bag its place. At a fault, it is removed.
@@ -46,14 +55,15 @@ fn place_bag<'a, Y: FileSystem + Drop, S: PlacedBlocks + Drop>(
     answer: RescueAnswer,
     source: SeenBlocks<S>,
     words: &BagWords<'a>,
-) -> Result<PlacedBag<Y, S>, UnplacedBag<'a, Y>>
+) -> Result<PlacedBag<Y, S>, UnplacedBag<'a, Y, S>>
     ensures placed { IfOk result (λ placed. IsPlaced words.now.folder.now (string_bytes shelf.folder)
         (given_by (string_bytes shelf.folder) shelf.modified (Y.did shelf.system))
         (others_in (string_bytes shelf.folder) (Y.did shelf.system)) (Y.did placed.system)) }
     ensures answer { IfOk result (λ placed. placed.answer ≡ answer) }
     ensures source { IfOk result (λ placed. placed.source ≡ source) }
     ensures fault { IfErr result (λ back. IsTakeFault (as_take_words words.now) back.fault) }
-    ensures other { IfErr result (λ back. tells_there back.fault ≡ false) }
+    ensures told { IfErr result (λ back. IsUnplaced words.now.folder.now back.fault) }
+    ensures back { IfErr result (λ back. back.source ≡ source) }
     ensures away { IfErr result (λ back. IsAwayFor back.fault (string_bytes shelf.folder)
         (Y.did shelf.system) (Y.did back.system)) }
 {
@@ -66,6 +76,7 @@ fn place_bag<'a, Y: FileSystem + Drop, S: PlacedBlocks + Drop>(
         Err(back) => Err(UnplacedBag {
             fault: TakeFault::of_shelf(back.fault),
             system: back.system,
+            source,
         }),
     }
 }
@@ -74,14 +85,14 @@ fn place_bag<'a, Y: FileSystem + Drop, S: PlacedBlocks + Drop>(
 fn take_away<'a, Y: FileSystem + Drop>(
     shelf: FileShelf<Y>,
     fault: TakeFault<'a>,
-) -> UnplacedBag<'a, Y>
+) -> RemovedBag<'a, Y>
     ensures fault { StaysOrNoMemory fault.entry result.fault }
     ensures away { IsAwayFor result.fault (string_bytes shelf.folder) (Y.did shelf.system)
         (Y.did result.system) }
 {
     match shelf.take_away() {
-        Ok(system) => UnplacedBag { fault, system },
-        Err(system) => UnplacedBag {
+        Ok(system) => RemovedBag { fault, system },
+        Err(system) => RemovedBag {
             fault: TakeFault::Image(Fault::NoMemory),
             system,
         },
@@ -89,14 +100,15 @@ fn take_away<'a, Y: FileSystem + Drop>(
 }
 
 /// Writes the bag of an image to a folder next to its place; the folder gets its place once it is whole, and is removed at a
-/// fault.
+/// fault, with the source handed back. Faults: `CannotWrite` of the path that isn't written, a later read of the image failed, the
+/// bag is too large, memory was refused.
 fn write_bag<'a, Y: FileSystem + Drop, S: PlacedBlocks + Drop, W: Watch>(
     alloc: Global,
     system: Y,
     image: RescuedImage<S>,
     words: &BagWords<'a>,
     watch: &W,
-) -> Result<PlacedBag<Y, S>, UnplacedBag<'a, Y>>
+) -> Result<PlacedBag<Y, S>, UnplacedBag<'a, Y, S>>
     ensures placed { IfOk result (λ placed. IsBagPlaced (S.Holds placed.source.blocks) image.len
         (option_map string_bytes image.line) words.now (Y.did system) (Y.did placed.system)) }
     ensures answer { IfOk result (λ placed. EachKnown (S.Holds placed.source.blocks)
@@ -104,8 +116,11 @@ fn write_bag<'a, Y: FileSystem + Drop, S: PlacedBlocks + Drop, W: Watch>(
     ensures narrows { IfOk result (λ placed. OfEach (S.Holds placed.source.blocks)
         (S.Holds image.source.blocks)) }
     ensures fault { IfErr result (λ back. IsTakeFault (as_take_words words.now) back.fault) }
-    ensures away { IfErr result (λ back. IsBagAway words.now.folder.now back.fault
-        (Y.did system) (Y.did back.system)) }
+    ensures away { IfErr result (λ back. IsBagAway (as_take_words words.now)
+        (IsUngiven (S.Holds back.source.blocks) image.len (option_map string_bytes image.line) words.now)
+        back.fault (Y.did system) (Y.did back.system)) }
+    ensures back { IfErr result (λ back. OfEach (S.Holds back.source.blocks)
+        (S.Holds image.source.blocks)) }
 {
     let mut shelf = match FileShelf::create(alloc, system, words.folder) {
         Ok(shelf) => shelf,
@@ -113,6 +128,7 @@ fn write_bag<'a, Y: FileSystem + Drop, S: PlacedBlocks + Drop, W: Watch>(
             return Err(UnplacedBag {
                 fault: TakeFault::of_shelf(back.fault),
                 system: back.system,
+                source: image.into_source(),
             });
         }
     };
@@ -121,7 +137,12 @@ fn write_bag<'a, Y: FileSystem + Drop, S: PlacedBlocks + Drop, W: Watch>(
         Ok(answer) => place_bag(shelf, answer, source, words),
         Err(fault) => {
             let told = TakeFault::of_bag(fault, words.words.image);
-            Err(take_away(shelf, told))
+            let RemovedBag { fault, system } = take_away(shelf, told);
+            Err(UnplacedBag {
+                fault,
+                system,
+                source,
+            })
         }
     }
 }
@@ -130,15 +151,15 @@ fn write_bag<'a, Y: FileSystem + Drop, S: PlacedBlocks + Drop, W: Watch>(
 /// the image.
 ///
 /// As the last thing that the system does, exactly the bag of every image consistent with the bytes read gets this place. At a
-/// fault the place is as free as it was, and what was written is removed. Faults: `IsThere`; `CannotWrite` of the path that isn't
-/// written, a later read of the image failed, memory was refused.
+/// fault the place is as free as it was, what was written is removed, and the source is handed back. Faults: `IsThere`; as for
+/// [`write_bag`].
 pub fn rescue_opened<'a, Y: FileSystem + Drop, S: PlacedBlocks + Drop, W: Watch>(
     alloc: Global,
     system: Y,
     image: RescuedImage<S>,
     words: &BagWords<'a>,
     watch: &W,
-) -> Result<PlacedBag<Y, S>, UnplacedBag<'a, Y>>
+) -> Result<PlacedBag<Y, S>, UnplacedBag<'a, Y, S>>
     ensures placed { IfOk result (λ placed. IsBagPlaced (S.Holds placed.source.blocks) image.len
         (option_map string_bytes image.line) words.now
         (done (looked words.now.folder.now false) ∷ Y.did system) (Y.did placed.system)) }
@@ -147,13 +168,19 @@ pub fn rescue_opened<'a, Y: FileSystem + Drop, S: PlacedBlocks + Drop, W: Watch>
     ensures narrows { IfOk result (λ placed. OfEach (S.Holds placed.source.blocks)
         (S.Holds image.source.blocks)) }
     ensures fault { IfErr result (λ back. IsTakeFault (as_take_words words.now) back.fault) }
-    ensures unplaced { IfErr result (λ back. IsBagUnplaced words.now back.fault
-        (Y.did system) (Y.did back.system)) }
+    ensures unplaced { IfErr result (λ back. IsBagUnplaced (as_take_words words.now)
+        (IsUngiven (S.Holds back.source.blocks) image.len (option_map string_bytes image.line) words.now)
+        back.fault (Y.did system) (Y.did back.system)) }
+    ensures back { IfErr result (λ back. OfEach (S.Holds back.source.blocks)
+        (S.Holds image.source.blocks)) }
 {
     let mut system = system;
     if system.is_there(words.folder) {
-        let fault = TakeFault::IsThere(words.folder);
-        return Err(UnplacedBag { fault, system });
+        return Err(UnplacedBag {
+            fault: TakeFault::IsThere(words.folder),
+            system,
+            source: image.into_source(),
+        });
     }
     write_bag(alloc, system, image, words, watch)
 }

@@ -24,7 +24,7 @@ use Rattle.hfs_bag.specs.Told.{Tells, TellsNewFolder, TellsWithin}
 use Rattle.hfs_word_take.specs.declared.fault.TakeFault.{TakeFault}
 use Rattle.hfs_word_take.specs.declared.fault.TakeFault.TheVariants as take
 use Rattle.hfs_word_take.specs.declared.words.TakeWords.{TakeWords}
-use Rattle.hfs_word_take.specs.TakeFaults.{IsImageFault, IsTakeFault, IsUntaken, IsUnwritten, KeepsShelfFault, fault_of_shelf, needed_fault}
+use Rattle.hfs_word_take.specs.TakeFaults.{IsImageFault, IsTakeFault, IsUntaken, IsUnwritten, fault_of_bag, fault_of_shelf, needed_fault}
 
 unread : (words : TakeWords) (found : Fault) → found ≡ CannotRead words.image → IsImageFault words found
 unread words found is = inl (inl is)
@@ -88,10 +88,8 @@ of_shelf words shelf.NoMemory found same tells = known words found _ same (unsto
 
 -- a bag's fault tells what its shelf's does, which writes that folder
 pub of_bag : (words : TakeWords) (fault : BagFault) (found : TakeFault) (new : List ℕ) → IsNewFolder words.folder.now new
-    → ((why : ShelfFault) → fault ≡ bag.Shelf why → TellsWithin new why) → (fault ≡ bag.Source source.ReadFailed → found ≡ take.Image (CannotRead words.image))
-    → (fault ≡ bag.Source source.Memory → found ≡ take.Image NoMemory) → KeepsShelfFault fault found
-    → (fault ≡ bag.TooLarge → found ≡ take.Image (Refused mount.TooLarge)) → IsTakeFault words found
-of_bag words (bag.Source source.ReadFailed) found new is told read memory shelved large = known words found _ (read refl) (unread words _ refl)
-of_bag words (bag.Source source.Memory) found new is told read memory shelved large = known words found _ (memory refl) (unstored words _ refl)
-of_bag words (bag.Shelf why) found new is told read memory shelved large = of_shelf words why found (shelved why refl) (unfilled words.folder.now new why is (told why refl))
-of_bag words bag.TooLarge found new is told read memory shelved large = known words found _ (large refl) (inr (mount.TooLarge, refl))
+    → ((why : ShelfFault) → fault ≡ bag.Shelf why → TellsWithin new why) → found ≡ fault_of_bag words.image fault → IsTakeFault words found
+of_bag words (bag.Source source.ReadFailed) found new is told same = known words found _ same (unread words _ refl)
+of_bag words (bag.Source source.Memory) found new is told same = known words found _ same (unstored words _ refl)
+of_bag words (bag.Shelf why) found new is told same = of_shelf words why found same (unfilled words.folder.now new why is (told why refl))
+of_bag words bag.TooLarge found new is told same = known words found _ same (inr (mount.TooLarge, refl))

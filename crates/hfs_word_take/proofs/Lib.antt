@@ -6,6 +6,8 @@ pub mod RootLemmas
 pub mod PlainNames
 pub mod PlacedItemLemmas
 mod NamedLemmas
+mod TableRows
+mod PathsBack
 pub mod StateLemmas
 pub mod LawsProved
 pub mod DigestLemmas

@@ -1,17 +1,25 @@
 -- The line of what was asked for.
-use Rattle.std.proofs.Common.{◌≡◌, ◌∙◌, ℕ, ◌+◌, ◌≤◌, Bool, List, [], length, take, drop, Option, None, Some, refl, ap, sym, subst, inl, inr, arith, length-take, length-drop}
+use Rattle.std.proofs.Common.{◌≡◌, ◌≢◌, ◌∙◌, ℕ, ◌+◌, ◌≤◌, Bool, List, [], length, take, drop, Option, None, Some, refl, ap, sym, subst, inl, inr, arith, length-take, length-drop}
+use Rattle.std.specs.Prelude.{⊤}
 use Rattle.std.proofs.lemmas.Option.{none-some}
 use Rattle.hfs_check.specs.declared.mount_fault.MountFault.TheVariants.{Short}
 use Rattle.hfs_check.specs.Faults.{fault_of, length_fault}
-use Rattle.hfs_commands.specs.Parts.{IsRangeAt, asked_at}
+use Rattle.hfs_commands.specs.OpenedFiles.{held_bytes, images_of, opened_layout}
+use Rattle.hfs_commands.specs.Parts.{IsAskedPart, IsRangeAt, asked_at}
+use Rattle.hfs_commands.specs.declared.opened_file.OpenedFile.{OpenedFile}
+use Rattle.hfs_commands.specs.declared.volume_files.FilePart.{FilePart}
 use Rattle.hfs_source.specs.Asking.{IsAnswerTo}
 use Rattle.hfs_source.specs.declared.asking.NumberedRange.{NumberedRange}
 use Rattle.hfs_source.specs.declared.ranges.ByteRange.{ByteRange}
-use Rattle.hfs_commands.specs.SeenFiles.{IsPartOf}
+use Rattle.hfs_commands.specs.SeenFiles.{IsPartOf, parts_of}
+use Rattle.hfs_source.specs.declared.asking.Counted.{Counted}
+use Rattle.hfs_source.specs.declared.blocks.BlocksOf.{BlocksOf}
+use Rattle.hfs_source.specs.declared.range.RangeBytes.{RangeBytes}
+use Rattle.hfs_source.specs.declared.window.Window.{Window}
 use Rattle.hfs_source.specs.Ranges.{bytes_in}
 use Rattle.hfs_source.specs.Sums.{sum_told}
 use Rattle.hfs_source.specs.Images.{HasLength, IsRangeOf, OfEach}
-use Rattle.hfs_word_take.specs.Opening.{HasLengthIfSound, IsLineAt, IsLineOf, IsLineWith, IsSumAt, IsSumIn, IsToldPart, TellsSum, TellsSumIn}
+use Rattle.hfs_word_take.specs.Opening.{HasLengthIfSound, IsAskedOf, IsLineAt, IsLineOf, IsRangeIn, IsSumAt, IsSumIn, IsToldPart, TellsPart, TellsPartIn}
 
 at-range : (AreOthers : ℕ → Type 0) (Names : List ℕ → Type 0) (range : ByteRange) (place : Option NumberedRange) (line : Option (List ℕ)) (sum : Option Bool) → IsRangeAt place range
     → IsToldPart AreOthers Names place line sum → IsLineAt range place line
@@ -25,18 +33,41 @@ line_of_part AreOthers Names volume range found place line sum answer at same to
 
 -- ---- what is told of its sum
 
-with-sum : (AreOthers : ℕ → Type 0) (Names : List ℕ → Type 0) (range : ByteRange) (place : Option NumberedRange) (line : Option (List ℕ))
-    (sum : Option Bool) → IsRangeAt place range → IsToldPart AreOthers Names place line sum → IsLineWith range place line sum
-with-sum AreOthers Names range None line sum at told = told.0
-with-sum AreOthers Names range (Some place) line sum at told = (told.2.name, told.2.others, at, told.1 ∙ ap Some told.2.line_is)
+any-others : (AreOthers : ℕ → Type 0) (Names : List ℕ → Type 0) (place : Option NumberedRange) (line : Option (List ℕ)) (sum : Option Bool)
+    → IsToldPart AreOthers Names place line sum → IsToldPart (λ others. ⊤) Names place line sum
+any-others AreOthers Names None line sum told = told
+any-others AreOthers Names (Some place) line sum told = (
+  told.0,
+  told.1,
+  record {
+    name = told.2.name;
+    name_is = told.2.name_is;
+    others = told.2.others;
+    others_is = tt;
+    line_is = told.2.line_is;
+  },
+)
 
-pub sum_of_part : (Holds : List ℕ → Type 0) (AreOthers : ℕ → Type 0) (Names : List ℕ → Type 0) (volume : Option ℕ) (range found : ByteRange)
-    (place : Option NumberedRange) (line : Option (List ℕ)) (sum : Option Bool) → IsAnswerTo volume (asked_at place) → IsRangeAt place range
-    → found ≡ range → IsToldPart AreOthers Names place line sum → IsSumAt Holds place sum → TellsSum Holds volume found line sum
-sum_of_part Holds AreOthers Names volume range found place line sum answer at same told is = record {
-  place = place;
+-- what was asked for of a file is asked for when its line was told
+asked-still : {F : Type 0} (counted : Counted) (volume : Option ℕ) (part : FilePart F) (found : Window (OpenedFile F)) → IsAskedPart counted volume part
+    → OfEach (images_of found.source) (images_of part.bytes.source) → (part.place ≡ None → found ≡ part.bytes)
+    → IsAskedOf (opened_layout part.bytes.source) counted volume found.source part.place
+asked-still {F = F} counted volume part found (inl asked) held whole = inl (λ bytes h. asked bytes (held bytes h))
+asked-still {F = F} counted volume part found (inr alone) held whole =
+    inr (alone.0, alone.1, subst (λ (bytes : Window (OpenedFile F)). held_bytes bytes.source ≢ None) (sym (whole alone.1)) alone.2)
+
+pub told_of_part : {F : Type 0} (AreOthers : ℕ → Type 0) (counted : Counted) (volume : Option ℕ) (part : FilePart F) (found : Window (OpenedFile F))
+    (line : Option (List ℕ)) (sum : Option Bool) → IsAnswerTo volume (asked_at part.place) → IsAskedPart counted volume part
+    → IsRangeAt part.place part.bytes.range → found.range ≡ part.bytes.range → OfEach (images_of found.source) (images_of part.bytes.source)
+    → (part.place ≡ None → found ≡ part.bytes) → IsToldPart AreOthers (images_of found.source) part.place line sum
+    → IsSumAt (images_of found.source) part.place sum → TellsPart found.source counted volume found.range line sum
+told_of_part AreOthers counted volume part found line sum answer asked at same held whole told is = record {
+  place = part.place;
   answers = answer;
-  line_is = with-sum AreOthers Names found place line sum (subst (IsRangeAt place) (sym same) at) told;
+  layout = opened_layout part.bytes.source;
+  asked = asked-still counted volume part found asked held whole;
+  range_is = subst (IsRangeAt part.place) (sym same) at;
+  line_is = any-others AreOthers (images_of found.source) part.place line sum told;
   sum_is = is;
 }
 
@@ -54,23 +85,29 @@ module _ (Holds Parts : List ℕ → Type 0) (range : ByteRange) (start count : 
             empty ∙ ap (λ (n : ℕ). take n (drop range.start of.0)) zero-len
       ]
 
-  in-part : (place : Option NumberedRange) (line : Option (List ℕ)) (sum : Option Bool) → IsLineWith range place line sum
-      → IsSumAt Holds place sum → IsSumIn Parts place sum
-  in-part None line sum told is = is
-  in-part (Some place) line sum told is = λ part there.
-      let of = within part there in
-      is of.0 of.1 ∙ ap (sum_told place.found.container) (ap (λ (r : ByteRange). bytes_in r of.0) (sym told.2) ∙ sym (part-bytes part there))
+  parts-in : OfEach Parts (IsRangeIn Holds range)
+  parts-in part is = ((within part is).0, (within part is).1, part-bytes part is)
 
-  pub sum_in_part : (volume : Option ℕ) (line : Option (List ℕ)) (sum : Option Bool) → TellsSum Holds volume range line sum
-      → TellsSumIn Parts volume len line sum
-  sum_in_part volume line sum tells = record {
-    range = range;
-    len_is = sym same;
-    place = tells.place;
-    answers = tells.answers;
-    line_is = tells.line_is;
-    sum_is = in-part tells.place line sum tells.line_is tells.sum_is;
-  }
+  in-part : (place : Option NumberedRange) (sum : Option Bool) → IsRangeAt place range → IsSumAt Holds place sum → IsSumIn Parts place sum
+  in-part None sum at is = is
+  in-part (Some place) sum at is = λ part there.
+      let of = within part there in
+      is of.0 of.1 ∙ ap (sum_told place.found.container) (ap (λ (r : ByteRange). bytes_in r of.0) (sym at) ∙ sym (part-bytes part there))
+
+-- so what is told of the part that was opened is told of its blocks
+pub told_in_part : {F : Type 0} (file : OpenedFile F) (blocks : BlocksOf (RangeBytes (OpenedFile F))) (range : ByteRange) (start count : ℕ)
+    → OfEach (parts_of blocks) (IsRangeOf (images_of file) start count) → IsPartOf (images_of file) range start count
+    → (len : ℕ) → OfEach (parts_of blocks) (HasLength len) → len ≡ range.len
+    → (counted : Counted) (volume : Option ℕ) (line : Option (List ℕ)) (sum : Option Bool) → TellsPart file counted volume range line sum
+    → TellsPartIn blocks counted volume len line sum
+told_in_part file blocks range start count within at len lens same counted volume line sum tells = record {
+  file = file;
+  range = range;
+  len_is = sym same;
+  told = tells;
+  parts_are = parts-in (images_of file) (parts_of blocks) range start count within at len lens same;
+  sum_is = in-part (images_of file) (parts_of blocks) range start count within at len lens same tells.place sum tells.range_is tells.sum_is;
+}
 
 -- ---- how long what was opened is
 

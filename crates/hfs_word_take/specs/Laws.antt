@@ -1,13 +1,20 @@
 -- What holds of the items of a volume.
-use Rattle.std.specs.Prelude.{◌≡◌, ⊤, ℕ, List, [], ◌∷◌, ◌++◌, drop, IsTrue}
+use Rattle.std.specs.Prelude.{◌≡◌, ◌≢◌, ⊤, ℕ, List, [], ◌∷◌, ◌++◌, codes, drop, IsTrue, Some}
+use Rattle.std.specs.List.{list_all}
+use Rattle.hfs_blocks.specs.Blocks.{block_at}
 use Rattle.hfs_bag.specs.Laws.{ArePlaced}
 use Rattle.hfs_model.specs.declared.item.Item.{Item}
 use Rattle.hfs_model.specs.Volume.{Entry, Volume}
 use Rattle.hfs_model.specs.Children.{entries_of}
 use Rattle.hfs_model.specs.Lawful.{Has, IsLawful}
 use Rattle.hfs_texts.specs.NameLaws.{is_bytes}
+use Rattle.hfs_texts.specs.MacPaths.{mac_path}
+use Rattle.hfs_texts.specs.Paths.{path_names}
+use Rattle.hfs_texts.specs.PlainTexts.{is_itself}
+use Rattle.hfs_items.specs.Levels.{catalog_rows}
 use Rattle.hfs_items.specs.ToldRows.{ToldRow, told_rows}
 use Rattle.hfs_table.specs.Lines.{bag_path}
+use Rattle.hfs_check.specs.Parts.{catalog_in}
 use Rattle.hfs_check.specs.Sound.{IsSound}
 use Rattle.hfs_word_take.specs.Items.{bag_item, bag_items, entries_in}
 
@@ -36,3 +43,14 @@ SoundItemsArePlaced = (image : List ℕ) → IsTrue (is_bytes image) → IsSound
 
 abbrev pub SoundPathsAreTold : Type 0
 SoundPathsAreTold = (image : List ℕ) → IsTrue (is_bytes image) → IsSound image → ArePathsTold (entries_in image) (drop 1 (told_rows (entries_in image)))
+
+-- the rows of a sound image's catalog, which a page has, are those of its table: each item's once, in the table's order
+abbrev pub SoundCatalogsTellTables : Type 0
+SoundCatalogsTellTables = (image : List ℕ) → IsSound image → catalog_rows (catalog_in (block_at image)) ≡ told_rows (entries_in image)
+
+-- ---- paths
+
+-- a text of which names are read is the path that is printed of them, where each byte prints as itself; `:` alone is read as one empty name
+abbrev pub ArePathsPrintedBack : Type 0
+ArePathsPrintedBack =
+    (text : List ℕ) (names : List (List ℕ)) → IsTrue (list_all is_itself text) → text ≢ codes ":" → path_names text ≡ Some names → mac_path names ≡ text

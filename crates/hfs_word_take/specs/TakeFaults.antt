@@ -4,6 +4,8 @@ use Rattle.std.specs.Prelude.{◌≡◌, ◌⊎◌, ⊤, ℕ, List, ◌++◌, co
 use Rattle.std.specs.Fmt.{decimal}
 use Rattle.hfs_bag.specs.declared.fault.BagFault.{BagFault}
 use Rattle.hfs_bag.specs.declared.fault.BagFault.TheVariants as bag
+use Rattle.hfs_bag.specs.declared.source.SourceFault.{SourceFault}
+use Rattle.hfs_bag.specs.declared.source.SourceFault.TheVariants as source
 use Rattle.hfs_bag.specs.Bags.{bytes_in, payload}
 use Rattle.hfs_bag.specs.Faults.{AreTooMany, IsBagFault}
 use Rattle.hfs_bag.specs.declared.sums.BagSums.{BagSums}
@@ -12,6 +14,7 @@ use Rattle.hfs_commands.specs.declared.fault.Fault.TheVariants.{CannotRead, NoMe
 use Rattle.hfs_commands.specs.declared.fault.Status.{Status}
 use Rattle.hfs_commands.specs.declared.fault.Status.TheVariants.{DeviceFailed}
 use Rattle.hfs_check.specs.declared.mount_fault.MountFault.{MountFault}
+use Rattle.hfs_check.specs.declared.mount_fault.MountFault.TheVariants as mount
 use Rattle.hfs_commands.specs.Faults.{IsUnopened, fault_text, status_of}
 use Rattle.hfs_commands.specs.Paths.{path_text}
 use Rattle.hfs_image.specs.declared.opening.NeededFault.{NeededFault}
@@ -23,7 +26,7 @@ use Rattle.hfs_source.specs.Images.{OfEach}
 use Rattle.hfs_bag.specs.declared.shelf_fault.ShelfFault.{ShelfFault}
 use Rattle.hfs_bag.specs.declared.shelf_fault.ShelfFault.TheVariants as shelf
 use Rattle.hfs_bag.specs.ShelfPaths.{IsNewFolder}
-use Rattle.hfs_bag.specs.Told.{IsFolderOrIn}
+use Rattle.hfs_bag.specs.Told.{IsFolderOrIn, TellsWithin}
 use Rattle.hfs_texts.specs.Lines.{line}
 use Rattle.hfs_word_take.specs.declared.fault.TakeFault.{TakeFault}
 use Rattle.hfs_word_take.specs.declared.fault.TakeFault.TheVariants as take
@@ -78,14 +81,25 @@ abbrev pub fault_of_shelf : ShelfFault → TakeFault
 fault_of_shelf (shelf.CannotWrite path) = take.CannotWrite path
 fault_of_shelf shelf.NoMemory = take.Image NoMemory
 
--- a bag's fault that is its shelf's means what the shelf's means
-abbrev pub KeepsShelfFault : BagFault → TakeFault → Type 0
-KeepsShelfFault filling found = (why : ShelfFault) → filling ≡ bag.Shelf why → found ≡ fault_of_shelf why
+-- what a fault of the image at this path means, where it is the source of a bag
+abbrev pub fault_of_source : Bor (List ℕ) → SourceFault → TakeFault
+fault_of_source image source.ReadFailed = take.Image (CannotRead image)
+fault_of_source image source.Memory = take.Image NoMemory
+
+-- what it means that its bag was not filled
+abbrev pub fault_of_bag : Bor (List ℕ) → BagFault → TakeFault
+fault_of_bag image (bag.Source fault) = fault_of_source image fault
+fault_of_bag image (bag.Shelf fault) = fault_of_shelf fault
+fault_of_bag image bag.TooLarge = take.Image (Refused mount.TooLarge)
 
 -- a fault of a shelf, want of memory, or a read that failed; or the payload of each of these images is too large
 abbrev pub IsFillFault : (ShelfFault → Type 0) → (List ℕ → Type 0) → BagFault → Type 0
 IsFillFault ShelfGave Holds =
     IsBagFault (λ _. ⊤) ShelfGave (OfEach Holds (λ image. AreTooMany (bytes_in (payload (bag_items (entries_in image))))))
+
+-- one of these, where such a folder is filled with the bag of each of these images
+abbrev pub IsUngiven : (List ℕ → Type 0) → List ℕ → BagFault → Type 0
+IsUngiven Holds folder = IsFillFault (TellsWithin folder) Holds
 
 -- the lines of a bag that was made
 unfoldable pub taken_text : BagSums → List ℕ

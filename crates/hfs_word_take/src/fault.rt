@@ -1,6 +1,6 @@
 //! Why a volume was not taken.
 ghost use Rattle.std.specs.Prelude.{◌≡◌, Some};
-ghost use Rattle.hfs_word_take.specs.TakeFaults.{KeepsShelfFault, fault_of_shelf, take_fault_text, take_status};
+ghost use Rattle.hfs_word_take.specs.TakeFaults.{fault_of_bag, fault_of_shelf, fault_of_source, take_fault_text, take_status};
 
 use hfs_bag::{BagFault, ShelfFault, SourceFault};
 use hfs_check::MountFault;
@@ -31,9 +31,7 @@ impl TakeFault<'_> {
 
     /// The fault for a source that failed, given the image's file.
     pub fn of_source(fault: SourceFault, image: &str) -> TakeFault<'_>
-        ensures read { fault ≡ SourceFault.ReadFailed
-            → result ≡ TakeFault.Image (Fault.CannotRead image.entry) }
-        ensures memory { fault ≡ SourceFault.Memory → result ≡ TakeFault.Image Fault.NoMemory }
+        ensures { result ≡ fault_of_source image.entry fault }
     {
         match fault {
             SourceFault::ReadFailed => TakeFault::Image(Fault::CannotRead(image)),
@@ -53,13 +51,7 @@ impl TakeFault<'_> {
 
     /// The fault for a bag that was not filled from the image in this file.
     pub fn of_bag(fault: BagFault, image: &str) -> TakeFault<'_>
-        ensures read { fault ≡ BagFault.Source SourceFault.ReadFailed
-            → result ≡ TakeFault.Image (Fault.CannotRead image.entry) }
-        ensures memory { fault ≡ BagFault.Source SourceFault.Memory
-            → result ≡ TakeFault.Image Fault.NoMemory }
-        ensures shelf { KeepsShelfFault fault result }
-        ensures large { fault ≡ BagFault.TooLarge
-            → result ≡ TakeFault.Image (Fault.Refused MountFault.TooLarge) }
+        ensures { result ≡ fault_of_bag image.entry fault }
     {
         match fault {
             BagFault::Source(fault) => TakeFault::of_source(fault, image),

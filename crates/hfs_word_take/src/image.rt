@@ -60,4 +60,18 @@ impl<S: PlacedBlocks + Drop> TakenImage<S> {
             Err(back) => Err(back),
         }
     }
+
+    /// The opened image alone.
+    pub(crate) fn into_opened(self) -> SeenImage<S>
+        ensures { result ≡ self.opened }
+    {
+        let TakenImage {
+            opened,
+            beside: _,
+            len: _,
+            report: _,
+            volume: _,
+        } = self;
+        opened
+    }
 }

@@ -30,7 +30,8 @@ pub use crate::giving::{GivenBag, give_image};
 pub use crate::image::TakenImage;
 pub use crate::items::{ImageItems, Unbegun};
 pub use crate::laws::{
-    bag_paths_are_told, items_are_placed, sound_items_are_placed, sound_paths_are_told,
+    bag_paths_are_told, items_are_placed, paths_are_printed_back, sound_catalogs_tell_tables,
+    sound_items_are_placed, sound_paths_are_told,
 };
 pub use crate::opening::{FoundPart, find_part};
 pub use crate::taking::{

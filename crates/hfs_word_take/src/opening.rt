@@ -9,7 +9,7 @@ ghost use Rattle.hfs_commands.specs.SeenFiles.{parts_of};
 ghost use Rattle.hfs_image.specs.Seen.{HasNoFault};
 ghost use Rattle.hfs_source.specs.Images.{OfEach};
 ghost use Rattle.hfs_word_take.specs.TakeFaults.{IsImageFault, IsUntaken, needed_fault};
-ghost use Rattle.hfs_word_take.specs.Opening.{AreBlocksAt, HasLengthIfSound, IsLineOf, IsSumAt, IsToldLine, IsToldPart, TellsSum, TellsSumIn, TellsVolume};
+ghost use Rattle.hfs_word_take.specs.Opening.{AreBlocksAt, HasLengthIfSound, IsLineOf, IsSumAt, IsToldLine, IsToldPart, TellsPart, TellsPartIn, TellsVolume};
 
 use crate::facts::volume_text;
 use crate::image::TakenImage;
@@ -64,6 +64,7 @@ fn line_of<'a, F: Read + Seek>(
 ) -> Result<(String, Option<bool>), Fault<'a>>
     ensures line { IfOk result (λ told. IsToldLine (AreHeldOthers file.old) (images_of file.new) place.now (string_bytes told.0) told.1) }
     ensures sum { IfOk result (λ told. IsSumAt (images_of file.new) (Some place.now) told.1) }
+    ensures held { OfEach (images_of file.new) (images_of file.old) }
     ensures fault { IfErr result (IsReadFault path.entry) }
 {
     let others = told_read(file.others(), path)?;
@@ -85,6 +86,9 @@ fn told_part<'a, F: Read + Seek + Drop>(
     ensures line { IfOk result (λ found. IsToldPart (AreHeldOthers part.bytes.source) (images_of found.bytes.source) part.place
         (option_map string_bytes found.line) found.sum) }
     ensures sum { IfOk result (λ found. IsSumAt (images_of found.bytes.source) part.place found.sum) }
+    ensures held { IfOk result (λ found. OfEach (images_of found.bytes.source)
+        (images_of part.bytes.source)) }
+    ensures whole { part.place ≡ None → IfOk result (λ found. found.bytes ≡ part.bytes) }
     ensures fault { IfErr result (IsReadFault path.entry) }
 {
     let FilePart { mut bytes, place } = part;
@@ -105,7 +109,7 @@ fn told_part<'a, F: Read + Seek + Drop>(
 
 /// What is asked for of an image, given the number of a volume in it or none, as [`open_asked`] opens it, and its line. Faults,
 /// with what was read: as for [`open_asked`].
-#[tactic(auto, using(crate::proofs::PartLines::line_of_part, crate::proofs::PartLines::sum_of_part, crate::proofs::FaultLemmas::unopened))]
+#[tactic(auto, using(crate::proofs::PartLines::line_of_part, crate::proofs::FaultLemmas::unopened))]
 pub fn find_part<'a, R: Files + AllocGlobal>(
     rt: &R,
     path: &'a str,
@@ -114,7 +118,7 @@ pub fn find_part<'a, R: Files + AllocGlobal>(
 ) -> Result<FoundPart<R::File>, UnopenedFile<'a, R::File>>
     ensures line { IfOk result (λ part. IsLineOf volume part.bytes.range
         (option_map string_bytes part.line)) }
-    ensures sum { IfOk result (λ part. TellsSum (images_of part.bytes.source) volume
+    ensures part { IfOk result (λ part. TellsPart part.bytes.source counted volume
         part.bytes.range (option_map string_bytes part.line) part.sum) }
     ensures told { IfErr result (TellsWhy path.entry (HasNoPart counted volume) WasNotRead) }
     ensures fault { IfErr result (λ back. IsUnopened path.entry volume back.fault) }
@@ -232,7 +236,7 @@ fn find_blocks<'a, R: Files + AllocGlobal>(
 ) -> Result<FoundBlocks<R::File>, UnopenedFile<'a, R::File>>
     ensures line { IfOk result (λ found. IsLineOf words.now.volume found.range
         (option_map string_bytes found.line)) }
-    ensures sum { IfOk result (λ found. TellsSum (images_of found.source.blocks.bytes.bytes)
+    ensures found { IfOk result (λ found. TellsPart found.source.blocks.bytes.bytes Volumes
         words.now.volume found.range (option_map string_bytes found.line) found.sum) }
     ensures part { IfOk result (λ found. AreBlocksAt found.range found.source) }
     ensures beside { IfOk result (λ found. IfSome found.beside (AreBlocksAt found.range)) }
@@ -343,7 +347,7 @@ pub(crate) fn open_image<'a, R: Files + AllocGlobal>(
 ) -> Result<OpenedTake<PlacedPart<R::File>>, UnopenedFile<'a, R::File>>
     ensures line { IfOk result (λ opened. TellsVolume words.now.volume opened.image.len
         (option_map string_bytes opened.image.volume)) }
-    ensures sum { IfOk result (λ opened. TellsSumIn (parts_of opened.image.opened)
+    ensures found { IfOk result (λ opened. TellsPartIn opened.image.opened Volumes
         words.now.volume opened.image.len (option_map string_bytes opened.image.volume) opened.sum) }
     ensures sound { IfOk result (λ opened. OfEach (parts_of opened.image.opened) HasNoFault) }
     ensures told { IfErr result (TellsWhy words.now.image (HasNoPart Volumes words.now.volume)

@@ -10,9 +10,9 @@ ghost use Rattle.hfs_bag.specs.ShelfPlaces.{others_in};
 ghost use Rattle.hfs_bag.specs.SystemSteps.{done, looked};
 ghost use Rattle.hfs_word_take.specs.Bags.{OfBag};
 ghost use Rattle.hfs_word_take.specs.Digests.{HoldsBoth};
-ghost use Rattle.hfs_word_take.specs.TakeFaults.{IsTakeFault, taken_text};
+ghost use Rattle.hfs_word_take.specs.TakeFaults.{IsTakeFault, IsUngiven, taken_text};
 ghost use Rattle.hfs_word_take.specs.Folders.{IsFolderPath};
-ghost use Rattle.hfs_word_take.specs.Placed.{HasPlaced, IsAwayFor, IsBagAway, IsBagUnplaced, StaysOrNoMemory, tells_there};
+ghost use Rattle.hfs_word_take.specs.Placed.{HasPlaced, IsAwayFor, IsBagAway, IsBagUnplaced, IsUnplaced, StaysOrNoMemory};
 
 use crate::fault::TakeFault;
 use crate::giving::{GivenBag, give_image};
@@ -48,29 +48,37 @@ pub struct PlacedBag<Y, S: PlacedBlocks> {
     pub beside: Option<SeenBlocks<S>>,
 }
 
-/// Why a bag is not in its place, with the system handed back.
+/// Why a bag is not in its place, the system that it was to be on, and what it was to be taken from.
 #[derive(Drop)]
-pub struct UnplacedBag<'a, Y> {
+pub struct UnplacedBag<'a, Y, S: PlacedBlocks> {
     pub fault: TakeFault<'a>,
     pub system: Y,
+    pub image: SeenImage<S>,
+}
+
+/// Why what was written of a bag was removed, with the system handed back.
+#[derive(Drop)]
+struct RemovedBag<'a, Y> {
+    fault: TakeFault<'a>,
+    system: Y,
 }
 
 /// Gives a whole bag its place. At a fault, it is removed.
 fn place_bag<'a, Y: FileSystem + Drop>(
     shelf: FileShelf<Y>,
     words: &TakeWords<'a>,
-) -> Result<Y, UnplacedBag<'a, Y>>
+) -> Result<Y, RemovedBag<'a, Y>>
     ensures placed { IfOk result (λ system. IsPlaced words.now.folder.now (string_bytes shelf.folder)
         (given_by (string_bytes shelf.folder) shelf.modified (Y.did shelf.system))
         (others_in (string_bytes shelf.folder) (Y.did shelf.system)) (Y.did system)) }
     ensures fault { IfErr result (λ back. IsTakeFault words.now back.fault) }
-    ensures other { IfErr result (λ back. tells_there back.fault ≡ false) }
+    ensures told { IfErr result (λ back. IsUnplaced words.now.folder.now back.fault) }
     ensures away { IfErr result (λ back. IsAwayFor back.fault (string_bytes shelf.folder)
         (Y.did shelf.system) (Y.did back.system)) }
 {
     match shelf.place(words.folder) {
         Ok(system) => Ok(system),
-        Err(back) => Err(UnplacedBag {
+        Err(back) => Err(RemovedBag {
             fault: TakeFault::of_shelf(back.fault),
             system: back.system,
         }),
@@ -81,14 +89,14 @@ fn place_bag<'a, Y: FileSystem + Drop>(
 fn take_away<'a, Y: FileSystem + Drop>(
     shelf: FileShelf<Y>,
     fault: TakeFault<'a>,
-) -> UnplacedBag<'a, Y>
+) -> RemovedBag<'a, Y>
     ensures fault { StaysOrNoMemory fault.entry result.fault }
     ensures away { IsAwayFor result.fault (string_bytes shelf.folder) (Y.did shelf.system)
         (Y.did result.system) }
 {
     match shelf.take_away() {
-        Ok(system) => UnplacedBag { fault, system },
-        Err(system) => UnplacedBag {
+        Ok(system) => RemovedBag { fault, system },
+        Err(system) => RemovedBag {
             fault: TakeFault::Image(Fault::NoMemory),
             system,
         },
@@ -96,7 +104,8 @@ fn take_away<'a, Y: FileSystem + Drop>(
 }
 
 /// Writes the bag of an image to a folder next to its place; the folder gets its place once it is whole, and is removed at a
-/// fault.
+/// fault, with the image handed back. Faults: `CannotWrite` of the path that isn't written, a later read of the image failed, its
+/// payload is too large, memory was refused.
 fn write_bag<'a, Y: FileSystem + Drop, H: Threads, S: PlacedBlocks + Drop + Send, W: Watch>(
     alloc: Global,
     system: Y,
@@ -104,10 +113,11 @@ fn write_bag<'a, Y: FileSystem + Drop, H: Threads, S: PlacedBlocks + Drop + Send
     image: TakenImage<S>,
     words: &TakeWords<'a>,
     watch: &W,
-) -> Result<PlacedBag<Y, S>, UnplacedBag<'a, Y>>
+) -> Result<PlacedBag<Y, S>, UnplacedBag<'a, Y, S>>
     ensures fault { IfErr result (λ back. IsTakeFault words.now back.fault) }
-    ensures away { IfErr result (λ back. IsBagAway words.now.folder.now back.fault
-        (Y.did system) (Y.did back.system)) }
+    ensures away { IfErr result (λ back. IsBagAway words.now (IsUngiven (S.Holds back.image))
+        back.fault (Y.did system) (Y.did back.system)) }
+    ensures back { IfErr result (λ back. OfEach (S.Holds back.image) (S.Holds image.opened)) }
     ensures sums { IfOk result (λ placed. OfEach (S.Holds placed.image)
         (λ bytes. IsSumOf placed.sums (bag_items (entries_in bytes)))) }
     ensures placed { IfOk result (λ placed. OfEach (HoldsBoth S.Holds placed.image placed.beside)
@@ -120,6 +130,7 @@ fn write_bag<'a, Y: FileSystem + Drop, H: Threads, S: PlacedBlocks + Drop + Send
             return Err(UnplacedBag {
                 fault: TakeFault::of_shelf(back.fault),
                 system: back.system,
+                image: image.into_opened(),
             });
         }
     };
@@ -136,18 +147,28 @@ fn write_bag<'a, Y: FileSystem + Drop, H: Threads, S: PlacedBlocks + Drop + Send
                 image,
                 beside,
             }),
-            Err(back) => Err(back),
+            Err(RemovedBag { fault, system }) => Err(UnplacedBag {
+                fault,
+                system,
+                image,
+            }),
         },
         Err(fault) => {
             let told = TakeFault::of_bag(fault, words.image);
-            Err(take_away(shelf, told))
+            let RemovedBag { fault, system } = take_away(shelf, told);
+            Err(UnplacedBag {
+                fault,
+                system,
+                image,
+            })
         }
     }
 }
 
 /// Takes the volume of an opened image, over any system, if nothing has the folder's name. As the last thing that the system
 /// does, exactly the bag of every image consistent with the bytes read gets this place. At a fault the place is as free as it
-/// was, and what was written is removed, as far as the system and memory allow. Faults: `IsThere`; as for [`write_bag`].
+/// was, what was written is removed, as far as the system and memory allow, and the image is handed back. Faults: `IsThere`; as
+/// for [`write_bag`].
 pub fn take_opened<'a, Y: FileSystem + Drop, H: Threads, S: PlacedBlocks + Drop + Send, W: Watch>(
     alloc: Global,
     system: Y,
@@ -155,10 +176,11 @@ pub fn take_opened<'a, Y: FileSystem + Drop, H: Threads, S: PlacedBlocks + Drop 
     image: TakenImage<S>,
     words: &TakeWords<'a>,
     watch: &W,
-) -> Result<PlacedBag<Y, S>, UnplacedBag<'a, Y>>
+) -> Result<PlacedBag<Y, S>, UnplacedBag<'a, Y, S>>
     ensures fault { IfErr result (λ back. IsTakeFault words.now back.fault) }
-    ensures unplaced { IfErr result (λ back. IsBagUnplaced words.now.folder back.fault
-        (Y.did system) (Y.did back.system)) }
+    ensures unplaced { IfErr result (λ back. IsBagUnplaced words.now (IsUngiven (S.Holds back.image))
+        back.fault (Y.did system) (Y.did back.system)) }
+    ensures back { IfErr result (λ back. OfEach (S.Holds back.image) (S.Holds image.opened)) }
     ensures sums { IfOk result (λ placed. OfEach (S.Holds placed.image)
         (λ bytes. IsSumOf placed.sums (bag_items (entries_in bytes)))) }
     ensures placed { IfOk result (λ placed. OfEach (HoldsBoth S.Holds placed.image placed.beside)
@@ -168,8 +190,11 @@ pub fn take_opened<'a, Y: FileSystem + Drop, H: Threads, S: PlacedBlocks + Drop 
 {
     let mut system = system;
     if system.is_there(words.folder) {
-        let fault = TakeFault::IsThere(words.folder);
-        return Err(UnplacedBag { fault, system });
+        return Err(UnplacedBag {
+            fault: TakeFault::IsThere(words.folder),
+            system,
+            image: image.into_opened(),
+        });
     }
     write_bag(alloc, system, threads, image, words, watch)
 }

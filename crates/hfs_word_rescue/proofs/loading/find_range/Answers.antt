@@ -1,13 +1,13 @@
--- The blocks are read from the file whose sum was told.
+-- The blocks are read from the file of which the line was told.
 use Rattle.std.proofs.Common.{◌≡◌, Global, rules, string_bytes, subst, sym}
 use Rattle.std.specs.Option.{option_map}
-use Rattle.hfs_commands.specs.OpenedFiles.{images_of}
-use Rattle.hfs_word_take.specs.Opening.{TellsSum}
+use Rattle.hfs_source.specs.declared.asking.Counted.TheVariants.{Ranges}
+use Rattle.hfs_word_take.specs.Opening.{TellsPart}
 use Rattle.hfs_word_rescue.proofs.loading.find_range.Goals as goal
 
-pub returns-clause-sum : goal.returns-clause-sum
-returns-clause-sum g c =
+pub returns-clause-found : goal.returns-clause-found
+returns-clause-found g c =
     let found = c.in_ok-bytes.field-0 in
     let own : c.part_blocks.result.blocks.bytes.bytes ≡ found.bytes.source = search rules in
-    subst (λ file. TellsSum (images_of file) c.args.words.now.volume found.bytes.range (option_map (string_bytes {Z = Global}) found.line) found.sum)
-    (sym own) c.in_ok-bytes.ensures.sum
+    subst (λ file. TellsPart file Ranges c.args.words.now.volume found.bytes.range (option_map (string_bytes {Z = Global}) found.line) found.sum)
+    (sym own) c.in_ok-bytes.ensures.part

@@ -3,26 +3,27 @@ use Rattle.std.proofs.Common.{◌≡◌, ◌≢◌, Global, Some, rules, string_
 use Rattle.std.specs.Option.{option_map}
 use Rattle.hfs_check.specs.declared.mount_fault.MountFault.TheVariants.{Short}
 use Rattle.hfs_commands.specs.OpenedFiles.{images_of}
+use Rattle.hfs_source.specs.declared.asking.Counted.TheVariants.{Ranges}
 use Rattle.hfs_commands.specs.SeenFiles.{parts_of}
 use Rattle.hfs_source.specs.Images.{OfEach}
 use Rattle.hfs_word_rescue.specs.declared.image.HoldFault.TheVariants.{NoDirectory}
 use Rattle.hfs_word_rescue.specs.Faults.{HasNoDirectory}
-use Rattle.hfs_word_take.specs.Opening.{TellsSumIn}
-use Rattle.hfs_word_take.proofs.PartLines.{sum_in_part}
+use Rattle.hfs_word_take.specs.Opening.{TellsPartIn}
+use Rattle.hfs_word_take.proofs.PartLines.{told_in_part}
 use Rattle.hfs_word_rescue.proofs.RangeLemmas.{none_outside}
 use Rattle.hfs_word_rescue.proofs.loading.load_range.Goals as goal
 
-pub returns-else-image-range-clause-sum : goal.returns-else-image-range-clause-sum
-returns-else-image-range-clause-sum g c =
+pub returns-else-image-range-clause-found : goal.returns-else-image-range-clause-found
+returns-else-image-range-clause-found g c =
     let found = c.args.found in
     let image = c.in-Ok.image in
     let same : image.len ≡ found.range.len = search rules in
     let told : image.line ≡ found.line = search rules in
-    subst (λ line. TellsSumIn (parts_of image.source.blocks) c.args.words.now.volume image.len (option_map (string_bytes {Z = Global}) line) found.sum)
+    subst (λ line. TellsPartIn image.source.blocks Ranges c.args.words.now.volume image.len (option_map (string_bytes {Z = Global}) line) found.sum)
     (sym told)
-    (sum_in_part (images_of found.source.blocks.bytes.bytes) (parts_of image.source.blocks) found.range found.source.blocks.bytes.start
+    (told_in_part found.source.blocks.bytes.bytes image.source.blocks found.range found.source.blocks.bytes.start
     found.source.blocks.bytes.len c.in-Ok.ensures.narrows c.requires.part image.len image.long same
-    c.args.words.now.volume (option_map (string_bytes {Z = Global}) found.line) found.sum c.requires.sum)
+    Ranges c.args.words.now.volume (option_map (string_bytes {Z = Global}) found.line) found.sum c.requires.found)
 
 pub returns-then-image-range-clause-told : goal.returns-then-image-range-clause-told
 returns-then-image-range-clause-told g c =

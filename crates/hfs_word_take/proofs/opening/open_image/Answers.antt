@@ -1,13 +1,13 @@
--- A volume that isn't opened is refused, or was not read; the blocks of one that is are those of the range whose sum was told.
+-- A volume that isn't opened is refused, or was not read; the blocks of one that is are those of the range of which the line was told.
 use Rattle.std.proofs.Common.{◌≡◌, Global, rules, string_bytes, subst, sym}
 use Rattle.std.specs.Option.{option_map}
 use Rattle.hfs_commands.specs.OpenedFiles.{images_of}
 use Rattle.hfs_commands.specs.SeenFiles.{parts_of}
 use Rattle.hfs_commands.specs.Unopened.{HasNoPart}
 use Rattle.hfs_source.specs.declared.asking.Counted.TheVariants.{Volumes}
-use Rattle.hfs_word_take.specs.Opening.{TellsSumIn}
+use Rattle.hfs_word_take.specs.Opening.{TellsPartIn}
 use Rattle.hfs_word_take.proofs.FaultLemmas.{of_needed, untaken_part}
-use Rattle.hfs_word_take.proofs.PartLines.{length_if_sound, sum_in_part}
+use Rattle.hfs_word_take.proofs.PartLines.{length_if_sound, told_in_part}
 use Rattle.hfs_word_take.proofs.opening.open_image.Goals as goal
 
 pub open_found-requires : goal.open_found-requires
@@ -26,14 +26,14 @@ returns-in-Err-clause-told g c =
     untaken_part c.args.words.now.image (HasNoPart Volumes c.args.words.now.volume) _ _ c.in-Err.field-0.source c.in-Err.field-0.fault
     c.in-Err.ensures.told
 
-pub returns-in-Ok-clause-sum : goal.returns-in-Ok-clause-sum
-returns-in-Ok-clause-sum g c =
+pub returns-in-Ok-clause-found : goal.returns-in-Ok-clause-found
+returns-in-Ok-clause-found g c =
     let found = c.in_ok-source.field-0 in
     let image = c.in-Ok.image in
     let same : image.len ≡ found.range.len = search rules in
     let told : image.volume ≡ found.line = search rules in
-    subst (λ line. TellsSumIn (parts_of image.opened) c.args.words.now.volume image.len (option_map (string_bytes {Z = Global}) line) found.sum)
+    subst (λ line. TellsPartIn image.opened Volumes c.args.words.now.volume image.len (option_map (string_bytes {Z = Global}) line) found.sum)
     (sym told)
-    (sum_in_part (images_of found.source.blocks.bytes.bytes) (parts_of image.opened) found.range found.source.blocks.bytes.start
+    (told_in_part found.source.blocks.bytes.bytes image.opened found.range found.source.blocks.bytes.start
     found.source.blocks.bytes.len c.in-Ok.ensures.narrows c.in_ok-source.ensures.part image.len image.len_is same
-    c.args.words.now.volume (option_map (string_bytes {Z = Global}) found.line) found.sum c.in_ok-source.ensures.sum)
+    Volumes c.args.words.now.volume (option_map (string_bytes {Z = Global}) found.line) found.sum c.in_ok-source.ensures.found)

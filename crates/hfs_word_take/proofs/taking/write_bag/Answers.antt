@@ -1,5 +1,5 @@
 -- A fault of the bag names what the words name, or a path in the folder that is written; and what was written is taken away.
-use Rattle.std.proofs.Common.{◌≡◌, List, ◌++◌, Global, Result, OnOk, IfErr, subst, inl}
+use Rattle.std.proofs.Common.{◌≡◌, List, ◌++◌, Global, Result, OnOk, IfErr, subst, inl, inr}
 use Rattle.hfs_bag.specs.declared.fault.BagFault.{BagFault}
 use Rattle.hfs_bag.specs.declared.sums.BagSums.{BagSums}
 use Rattle.hfs_bag.specs.Entries.{ShelfEntry}
@@ -9,9 +9,9 @@ use Rattle.hfs_word_take.specs.Digests.{HoldsBoth}
 use Rattle.std.specs.Option.{option_map}
 use Rattle.std.specs.Prelude.{string_bytes}
 use Rattle.hfs_bag.specs.Told.{TellsWithin}
-use Rattle.hfs_word_take.specs.TakeFaults.{IsFillFault}
+use Rattle.hfs_word_take.specs.TakeFaults.{IsFillFault, IsUngiven}
 use Rattle.hfs_word_take.proofs.FaultLemmas.{of_bag, of_shelf, uncreated}
-use Rattle.hfs_word_take.proofs.PlacedBagLemmas.{bag_away, bag_other, placed-bag, stays_other, stays_told}
+use Rattle.hfs_word_take.proofs.PlacedBagLemmas.{bag_away, placed-bag, stays_told, stays_ungiven}
 use Rattle.hfs_bag.specs.MadeFolders.{given_by}
 use Rattle.hfs_word_take.proofs.taking.write_bag.Goals as goal
 
@@ -27,18 +27,21 @@ returns-in-Err-sums-clause-fault g c =
     let new = string_bytes {Z = Global} c.in-Ok.shelf.folder in
     let given = subst (λ (sums : Result BagSums BagFault). IfErr sums (IsFillFault (TellsWithin new) (g.S.PlacedBlocks.Holds c.give_image-sums.result.image))) c.in-Err-sums.is
     c.give_image-sums.ensures.fault in
-    stays_told c.args.words.now c.of_bag-told.result c.take_away.result.fault c.take_away.ensures.fault
+    stays_told c.args.words.now c.of_bag-told.result c.take_away-fault.result.fault c.take_away-fault.ensures.fault
     (of_bag c.args.words.now c.in-Err-sums.fault c.of_bag-told.result new c.in-Ok.ensures.beside
-    (λ why same. subst (IsFillFault (TellsWithin new) (g.S.PlacedBlocks.Holds c.give_image-sums.result.image)) same given) c.of_bag-told.ensures.read
-    c.of_bag-told.ensures.memory c.of_bag-told.ensures.shelf c.of_bag-told.ensures.large)
+    (λ why same. subst (IsFillFault (TellsWithin new) (g.S.PlacedBlocks.Holds c.give_image-sums.result.image)) same given) c.of_bag-told.ensures)
 
 pub returns-in-Err-sums-clause-away : goal.returns-in-Err-sums-clause-away
 returns-in-Err-sums-clause-away g c =
+    let new = string_bytes {Z = Global} c.in-Ok.shelf.folder in
     let filled = c.give_image-sums.new.shelf in
-    let other = bag_other c.in-Err-sums.fault c.args.words.now c.of_bag-told.result c.of_bag-told.ensures.read c.of_bag-told.ensures.memory c.of_bag-told.ensures.shelf c.of_bag-told.ensures.large in
-    bag_away c.args.words.now.folder.now (string_bytes {Z = Global} c.in-Ok.shelf.folder) (string_bytes {Z = Global} filled.folder) c.take_away.result.fault
-    (g.Y.FileSystem.did c.args.system) (g.Y.FileSystem.did c.in-Ok.shelf.system) (g.Y.FileSystem.did filled.system) (g.Y.FileSystem.did c.take_away.result.system)
-    c.give_image-sums.ensures.place c.in-Ok.ensures.made c.take_away.ensures.away (stays_other c.of_bag-told.result c.take_away.result.fault c.take_away.ensures.fault other)
+    let Ungiven = IsUngiven (g.S.PlacedBlocks.Holds c.give_image-sums.result.image) in
+    let given = subst (λ (sums : Result BagSums BagFault). IfErr sums (Ungiven new)) c.in-Err-sums.is c.give_image-sums.ensures.fault in
+    bag_away c.args.words.now Ungiven new (string_bytes {Z = Global} filled.folder) c.take_away-fault.result.fault
+    (g.Y.FileSystem.did c.args.system) (g.Y.FileSystem.did c.in-Ok.shelf.system) (g.Y.FileSystem.did filled.system) (g.Y.FileSystem.did c.take_away-fault.result.system)
+    c.give_image-sums.ensures.place c.in-Ok.ensures.made c.take_away-fault.ensures.away
+    (stays_ungiven c.args.words.now (Ungiven new) c.in-Err-sums.fault c.of_bag-told.result c.take_away-fault.result.fault given c.of_bag-told.ensures
+    c.take_away-fault.ensures.fault)
 
 pub returns-in-Ok-place_bag-clause-placed : goal.returns-in-Ok-place_bag-clause-placed
 returns-in-Ok-place_bag-clause-placed g c =
@@ -57,6 +60,7 @@ returns-in-Ok-place_bag-clause-placed g c =
 pub returns-in-Err-place_bag-clause-away : goal.returns-in-Err-place_bag-clause-away
 returns-in-Err-place_bag-clause-away g c =
     let filled = c.give_image-sums.new.shelf in
-    bag_away c.args.words.now.folder.now (string_bytes {Z = Global} c.in-Ok.shelf.folder) (string_bytes {Z = Global} filled.folder) c.in-Err-place_bag.back.fault
-    (g.Y.FileSystem.did c.args.system) (g.Y.FileSystem.did c.in-Ok.shelf.system) (g.Y.FileSystem.did filled.system) (g.Y.FileSystem.did c.in-Err-place_bag.back.system)
-    c.give_image-sums.ensures.place c.in-Ok.ensures.made c.in-Err-place_bag.ensures.away c.in-Err-place_bag.ensures.other
+    bag_away c.args.words.now (IsUngiven (g.S.PlacedBlocks.Holds c.give_image-sums.result.image)) (string_bytes {Z = Global} c.in-Ok.shelf.folder)
+    (string_bytes {Z = Global} filled.folder) c.in-Err-place_bag.field-0.fault
+    (g.Y.FileSystem.did c.args.system) (g.Y.FileSystem.did c.in-Ok.shelf.system) (g.Y.FileSystem.did filled.system) (g.Y.FileSystem.did c.in-Err-place_bag.field-0.system)
+    c.give_image-sums.ensures.place c.in-Ok.ensures.made c.in-Err-place_bag.ensures.away (inr (inl c.in-Err-place_bag.ensures.told))
