@@ -11,7 +11,7 @@ use Rattle.hfs_bag.specs.Failing.{SomeFail}
 use Rattle.hfs_source.specs.Images.{FailsWhere, OfEach}
 use Rattle.sqlite.specs.declared.types.Value.TheVariants.{Text}
 use Rattle.hfs_database.specs.Asking.{IsKnown, known_image_text}
-use Rattle.hfs_database.specs.Faults.{FailsToTell}
+use Rattle.hfs_database.specs.Faults.{FailsToTell, IsUnreadImage}
 use Rattle.hfs_database.specs.declared.fault.DatabaseFault.{DatabaseFault}
 use Rattle.hfs_database.specs.Comparing.{by_digest, comparison, needs_digest}
 use Rattle.hfs_database.specs.declared.comparing.Comparison.{Comparison}
@@ -20,7 +20,7 @@ use Rattle.hfs_database.specs.declared.comparing.KnownImage.{KnownImage}
 use Rattle.hfs_word_collect.specs.Answers.{database_fault}
 use Rattle.hfs_word_collect.specs.declared.collect_fault.RunFault.{RunFault}
 use Rattle.hfs_word_collect.specs.declared.collect_fault.RunFault.TheVariants as run
-use Rattle.hfs_word_collect.specs.Comparing.{FailsToCompare, IsAsked, IsCompared, IsComparedIn, IsComparison, IsReadUnless}
+use Rattle.hfs_word_collect.specs.Comparing.{FailsToCompare, IsAsked, IsAskedOrMissing, IsCompared, IsComparedIn, IsComparison, IsReadUnless}
 
 -- a length and a digest tell it
 pub told_by : (known : KnownImage) (found : Comparison) (len : ℕ) (digits : List ℕ) → found ≡ comparison known len digits → IsComparison known found
@@ -30,15 +30,20 @@ told_by known found len digits is = λ read. ∣ (len, digits, is) ∣₁
 pub told_missing : (known : KnownImage) → IsComparison known Missing
 told_missing known = λ read. absurd (read refl)
 
-pub asked_missing : (old new : State) (path : List ℕ) → IsAsked old new path Missing
-asked_missing old new path = λ read. absurd (read refl)
+pub asked_missing : (old : State) (path : List ℕ) → IsAskedOrMissing old old path Missing
+asked_missing old path = inl (refl, refl)
+
+-- it was asked before
+pub asked_or_missing : {E : Type 0} (result : Result Comparison E) (old new : State) (path : List ℕ) → IfOk result (IsAsked old new path) → IfOk result (IsAskedOrMissing old new path)
+asked_or_missing (Ok found) old new path asked = inr asked
+asked_or_missing (Err why) old new path asked = tt
 
 pub compared_missing : (old new : State) (path file : List ℕ) → IsComparedIn old new path Missing file
 compared_missing old new path file = λ read. absurd (read refl)
 
 -- the database has no row of the path
 pub asked_new : (old new : State) (path : List ℕ) → IsKnown old new path None → IsAsked old new path New
-asked_new old new path known = λ read. ∣ (None, known, refl) ∣₁
+asked_new old new path known = ∣ (None, known, refl) ∣₁
 
 pub compared_new : (old new : State) (path file : List ℕ) → IsKnown old new path None → IsComparedIn old new path New file
 compared_new old new path file known = λ read. ∣ (None, known, refl) ∣₁
@@ -46,7 +51,7 @@ compared_new old new path file known = λ read. ∣ (None, known, refl) ∣₁
 -- the database has this row of it
 pub asked_known : {E : Type 0} (result : Result Comparison E) (old new : State) (path : List ℕ) (known : KnownImage) → IsKnown old new path (Some known)
     → IfOk result (IsComparison known) → IfOk result (IsAsked old new path)
-asked_known (Ok found) old new path known is told = λ read. ∣ (Some known, is, told) ∣₁
+asked_known (Ok found) old new path known is told = ∣ (Some known, is, told) ∣₁
 asked_known (Err why) old new path known is told = tt
 
 pub compared_known : {E : Type 0} (result : Result Comparison E) (Holds : List ℕ → Type 0) (old new : State) (path : List ℕ) (known : KnownImage) → IsKnown old new path (Some known)
@@ -116,7 +121,7 @@ read_before (Err why) Holds Later Before later told = tt
 
 -- ---- why it is not compared
 
-pub fails_by_database : (old new : State) (path : List ℕ) (fault : RunFault) (why : DatabaseFault) → fault ≡ database_fault why → FailsToTell old new known_image_text (Text path ∷ []) why
+pub fails_by_database : (old new : State) (path : List ℕ) (fault : RunFault) (why : DatabaseFault) → fault ≡ database_fault why → FailsToTell IsUnreadImage old new known_image_text (Text path ∷ []) why
     → FailsToCompare old new path fault
 fails_by_database old new path fault why is fails = inl (why, is, fails)
 

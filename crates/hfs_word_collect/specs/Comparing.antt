@@ -6,7 +6,7 @@ use Rattle.hfs_database.specs.declared.comparing.Comparison.{Comparison}
 use Rattle.sqlite.specs.State.{State}
 use Rattle.sqlite.specs.declared.types.Value.TheVariants.{Text}
 use Rattle.hfs_database.specs.Asking.{IsKnown, known_image_text}
-use Rattle.hfs_database.specs.Faults.{FailsToTell}
+use Rattle.hfs_database.specs.Faults.{FailsToTell, IsUnreadImage}
 use Rattle.hfs_database.specs.declared.fault.DatabaseFault.{DatabaseFault}
 use Rattle.hfs_database.specs.declared.comparing.Comparison.TheVariants.{Missing, New}
 use Rattle.hfs_database.specs.declared.comparing.KnownImage.{KnownImage}
@@ -29,9 +29,13 @@ abbrev pub IsComparisonTo : Option KnownImage → Comparison → Type 0
 IsComparisonTo (Some known) found = IsComparison known found
 IsComparisonTo None found = found ≡ New
 
--- the database was asked for the image of this path, and that decides which words are printed, unless the file could not be read
+-- the database was asked for the image of this path, and nothing else; what it has of it decides which words are printed, or the file could not be read
 abbrev pub IsAsked : State → State → List ℕ → Comparison → Type 0
-IsAsked old new path found = found ≢ Missing → ∥ ((known : Option KnownImage) × IsKnown old new path known × IsComparisonTo known found) ∥₁
+IsAsked old new path found = ∥ ((known : Option KnownImage) × IsKnown old new path known × IsComparisonTo known found) ∥₁
+
+-- it was asked so, or was asked nothing, since the file could not be read
+abbrev pub IsAskedOrMissing : State → State → List ℕ → Comparison → Type 0
+IsAskedOrMissing old new path found = ((found ≡ Missing) × (new ≡ old)) ⊎ IsAsked old new path found
 
 -- a file with these bytes compares so with what the database has of the image
 abbrev pub IsComparedTo : Option KnownImage → Comparison → List ℕ → Type 0
@@ -50,5 +54,5 @@ IsReadUnless Holds Fails found = (found ≢ Missing) ⊎ SomeFail Holds Fails
 -- or it has the image, and memory was refused after that
 abbrev pub FailsToCompare : State → State → List ℕ → RunFault → Type 0
 FailsToCompare old new path fault =
-    ((why : DatabaseFault) × (fault ≡ database_fault why) × FailsToTell old new known_image_text (Text path ∷ []) why)
+    ((why : DatabaseFault) × (fault ≡ database_fault why) × FailsToTell IsUnreadImage old new known_image_text (Text path ∷ []) why)
     ⊎ ((fault ≡ run.NoMemory) × ((known : KnownImage) × IsKnown old new path (Some known)))
