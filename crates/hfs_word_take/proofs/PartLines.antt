@@ -5,12 +5,13 @@ use Rattle.std.proofs.lemmas.Option.{none-some}
 use Rattle.hfs_check.specs.declared.mount_fault.MountFault.TheVariants.{Short}
 use Rattle.hfs_check.specs.Faults.{fault_of, length_fault}
 use Rattle.hfs_commands.specs.OpenedFiles.{held_bytes, images_of, opened_layout}
-use Rattle.hfs_commands.specs.Parts.{IsAskedPart, IsRangeAt, asked_at}
+use Rattle.hfs_commands.specs.Parts.{IsAskedPart, IsAskedWhole, IsRangeAt, asked_at}
 use Rattle.hfs_commands.specs.declared.opened_file.OpenedFile.{OpenedFile}
 use Rattle.hfs_commands.specs.declared.volume_files.FilePart.{FilePart}
-use Rattle.hfs_source.specs.Asking.{IsAnswerTo}
+use Rattle.hfs_source.specs.Asking.{IsAnswerTo, asked_in}
 use Rattle.hfs_source.specs.declared.asking.NumberedRange.{NumberedRange}
 use Rattle.hfs_source.specs.declared.ranges.ByteRange.{ByteRange}
+use Rattle.hfs_source.specs.declared.ranges.Layout.{Layout}
 use Rattle.hfs_commands.specs.SeenFiles.{IsPartOf, parts_of}
 use Rattle.hfs_source.specs.declared.asking.Counted.{Counted}
 use Rattle.hfs_source.specs.declared.blocks.BlocksOf.{BlocksOf}
@@ -48,13 +49,26 @@ any-others AreOthers Names (Some place) line sum told = (
   },
 )
 
+-- by the number 0 the whole file is asked for
+whole-asked : (layout : Layout) (counted : Counted) (number : ℕ) (bytes : List ℕ) (place : Option NumberedRange) → number ≡ 0 → place ≡ None
+    → asked_at place ≡ asked_in layout counted (Some number) bytes
+unfolding asked_in
+whole-asked layout counted number bytes place zero none =
+    subst (λ (n : ℕ). asked_at place ≡ asked_in layout counted (Some n) bytes) (sym zero) (ap asked_at none)
+
+taken-whole : {F : Type 0} (layout : Layout) (counted : Counted) (volume : Option ℕ) (part : FilePart F) (found : Window (OpenedFile F)) → IsAskedWhole volume (held_bytes part.bytes.source)
+    → part.place ≡ None → found ≡ part.bytes → IsAskedOf layout counted volume found.source part.place
+taken-whole {F = F} layout counted None part found held none same =
+    inr (refl, none, subst (λ (bytes : Window (OpenedFile F)). held_bytes bytes.source ≢ None) (sym same) held)
+taken-whole {F = F} layout counted (Some number) part found zero none same = inl (λ bytes h. whole-asked layout counted number bytes part.place zero none)
+
 -- what was asked for of a file is asked for when its line was told
 asked-still : {F : Type 0} (counted : Counted) (volume : Option ℕ) (part : FilePart F) (found : Window (OpenedFile F)) → IsAskedPart counted volume part
     → OfEach (images_of found.source) (images_of part.bytes.source) → (part.place ≡ None → found ≡ part.bytes)
     → IsAskedOf (opened_layout part.bytes.source) counted volume found.source part.place
-asked-still {F = F} counted volume part found (inl asked) held whole = inl (λ bytes h. asked bytes (held bytes h))
-asked-still {F = F} counted volume part found (inr alone) held whole =
-    inr (alone.0, alone.1, subst (λ (bytes : Window (OpenedFile F)). held_bytes bytes.source ≢ None) (sym (whole alone.1)) alone.2)
+asked-still counted volume part found (inl alone) held whole =
+    taken-whole (opened_layout part.bytes.source) counted volume part found alone.0 alone.1.0 (whole alone.1.0)
+asked-still counted volume part found (inr named) held whole = inl (λ bytes h. named.1.1 bytes (held bytes h))
 
 pub told_of_part : {F : Type 0} (AreOthers : ℕ → Type 0) (counted : Counted) (volume : Option ℕ) (part : FilePart F) (found : Window (OpenedFile F))
     (line : Option (List ℕ)) (sum : Option Bool) → IsAnswerTo volume (asked_at part.place) → IsAskedPart counted volume part
