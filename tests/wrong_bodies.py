@@ -64,6 +64,7 @@ HEADLINE = [
     'hfs_word_collect/end_before_the_rows',
     'hfs_word_collect/collected_image_told_as_unread',
     'hfs_word_collect/readable_image_told_as_missing',
+    'hfs_database/unknown_image_told_as_unread',
     'hfs_page/a_row_that_comes_twice',
     'hfs_page/a_legend_that_ends_another_element',
 ]

@@ -1,11 +1,11 @@
 -- What an error of SQLite means.
-use Rattle.std.specs.Prelude.{◌≡◌, ◌⊎◌, ⊤, ℕ, Bool, true, false, if◌then◌else◌, List, Ok, Err}
+use Rattle.std.specs.Prelude.{◌≡◌, ◌⊎◌, ◌≤◌, ⊤, ℕ, pos, Bool, true, false, if◌then◌else◌, List, length, Ok, IsUtf8}
 use Rattle.sqlite.specs.declared.error.Error.{Error}
 use Rattle.sqlite.specs.declared.error.Error.TheVariants.{SqliteFailure}
 use Rattle.sqlite.specs.declared.error.ErrorCode.{ErrorCode}
 use Rattle.sqlite.specs.declared.error.ErrorCode.TheVariants as code
 use Rattle.sqlite.specs.declared.types.Value.{Value}
-use Rattle.sqlite.specs.Reading.{IsReadError}
+use Rattle.sqlite.specs.declared.types.Value.TheVariants.{Int, Null, Text}
 use Rattle.sqlite.specs.State.{State, FailsToQuery, HasCleanDisk, QueriesRow}
 use Rattle.sqlite_value.specs.Order.{column}
 use Rattle.hfs_database.specs.declared.row_fault.TakerFault.{TakerFault}
@@ -50,29 +50,42 @@ IsWritingFault NoMemory = ⊤
 abbrev pub taking_fault : Error → TakerFault
 taking_fault error = if is_memory error then taker.NoMemory else taker.CannotWrite
 
--- the database was asked this with these parameters, as long as the disk is clean, and answered an error that has this fault
+-- the database was asked this with these parameters, as long as the disk is clean, and could not answer it, for an error that has this fault
 abbrev pub FailsToAnswer : State → State → List ℕ → List Value → DatabaseFault → Type 0
 FailsToAnswer old new text params fault =
-    ∥ ((error : Error) × (fault ≡ writing_fault error) × (HasCleanDisk new → QueriesRow text params old new (Err error))) ∥₁
-
--- this column of a row was read, and gave an error that has this fault
-abbrev pub IsUnreadAt : List Value → ℕ → DatabaseFault → Type 0
-IsUnreadAt row at fault = (error : Error) × (fault ≡ writing_fault error) × IsReadError at (column row at) error
-
--- some column of a row was read, and gave an error that has this fault
-abbrev pub IsUnreadIn : List Value → DatabaseFault → Type 0
-IsUnreadIn row fault = ∥ ((at : ℕ) × IsUnreadAt row at fault) ∥₁
-
--- the database was asked this with these parameters, as long as the disk is clean, and a column of the row that it answered gave an error that has this fault
-abbrev pub FailsToRead : State → State → List ℕ → List Value → DatabaseFault → Type 0
-FailsToRead old new text params fault =
-    (row : List Value) × (HasCleanDisk new → QueriesRow text params old new (Ok row)) × IsUnreadIn row fault
-
--- the database was asked this with these parameters: it answered an error, or its row can't be read
-abbrev pub FailsToTell : State → State → List ℕ → List Value → DatabaseFault → Type 0
-FailsToTell old new text params fault = FailsToAnswer old new text params fault ⊎ FailsToRead old new text params fault
-
--- the database was asked for all rows, as long as the disk is clean, and answered an error that has this fault
-abbrev pub FailsToShow : State → State → List ℕ → List Value → DatabaseFault → Type 0
-FailsToShow old new text params fault =
     ∥ ((error : Error) × (fault ≡ writing_fault error) × (HasCleanDisk new → FailsToQuery text params old new error)) ∥₁
+
+-- a value that is read as a number of bytes, one that is read as a text, and one that is read as a text or as none
+abbrev pub IsCount : Value → Type 0
+IsCount value = (n : ℕ) × (value ≡ Int (pos n))
+
+abbrev pub IsText : Value → Type 0
+IsText value = (text : List ℕ) × (value ≡ Text text) × IsUtf8 text
+
+abbrev pub IsTextOrNull : Value → Type 0
+IsTextOrNull value = (value ≡ Null) ⊎ IsText value
+
+-- the row has no such column, or what is in it isn't read so
+abbrev pub IsUnreadable : (Value → Type 0) → List Value → ℕ → Type 0
+IsUnreadable IsRead row at = (length row ≤ at) ⊎ (¬ IsRead (column row at))
+
+-- this column of a row can't be read so, or memory was refused
+abbrev pub IsUnreadAt : (Value → Type 0) → List Value → ℕ → DatabaseFault → Type 0
+IsUnreadAt IsRead row at fault = (fault ≡ NoMemory) ⊎ ((fault ≡ CannotWrite) × IsUnreadable IsRead row at)
+
+-- the bytes or the digest of an image can't be read in this row
+abbrev pub IsUnreadImage : List Value → DatabaseFault → Type 0
+IsUnreadImage row fault = IsUnreadAt IsCount row 0 fault ⊎ IsUnreadAt IsTextOrNull row 1 fault
+
+-- the path that this row begins with can't be read
+abbrev pub IsUnreadPath : List Value → DatabaseFault → Type 0
+IsUnreadPath row fault = IsUnreadAt IsText row 0 fault
+
+-- the database was asked this with these parameters, as long as the disk is clean, and the row that it answered can't be read
+abbrev pub FailsToRead : (List Value → DatabaseFault → Type 0) → State → State → List ℕ → List Value → DatabaseFault → Type 0
+FailsToRead IsUnread old new text params fault =
+    (row : List Value) × (HasCleanDisk new → QueriesRow text params old new (Ok row)) × IsUnread row fault
+
+-- the database was asked this with these parameters: it could not answer, or its row can't be read
+abbrev pub FailsToTell : (List Value → DatabaseFault → Type 0) → State → State → List ℕ → List Value → DatabaseFault → Type 0
+FailsToTell IsUnread old new text params fault = FailsToAnswer old new text params fault ⊎ FailsToRead IsUnread old new text params fault

@@ -1,17 +1,21 @@
 -- The tables and indexes of a collection.
-use Rattle.std.specs.Prelude.{◌≡◌, ◌≢◌, ◌⊎◌, ⊤, pos, ℕ, Bool, IsTrue, false, List, [], ◌∷◌, codes, Ok}
+use Rattle.std.specs.Prelude.{◌≡◌, ◌≢◌, ◌⊎◌, ⊤, pos, ℕ, Bool, IsTrue, false, List, [], ◌∷◌, codes, Ok, Err}
+use Rattle.sqlite.specs.declared.error.Error.{Error}
 use Rattle.sqlite.specs.declared.types.Value.{Value}
 use Rattle.sqlite.specs.declared.types.Value.TheVariants.{Int, Text}
 use Rattle.sqlite.specs.Held.{Held, state}
-use Rattle.sqlite.specs.State.{HasCleanDisk, QueriesRow, State, Survives}
+use Rattle.sqlite.specs.State.{ExecutesInside, HasCleanDisk, IsRolledBack, QueriesRow, State, Survives}
+use Rattle.sqlite.specs.Steps.{FailsToCommit}
 use Rattle.sqlite.specs.Store.{Ghosts}
+use Rattle.sqlite.specs.Values.{IsInt}
 use Rattle.sqlite_value.specs.Order.{column}
 use Rattle.hfs_database.specs.declared.fault.DatabaseFault.{DatabaseFault}
-use Rattle.hfs_database.specs.declared.fault.DatabaseFault.TheVariants.{CannotOpen}
-use Rattle.hfs_database.specs.declared.fault.Obstacle.TheVariants.{NoTables, OtherTables}
+use Rattle.hfs_database.specs.declared.fault.DatabaseFault.TheVariants.{CannotOpen, CannotWrite, NoMemory}
+use Rattle.hfs_database.specs.declared.fault.Obstacle.TheVariants.{Busy, Damaged, NoTables, OtherTables, System, Unreadable}
 use Rattle.hfs_database.specs.declared.tables.Found.{Found}
 use Rattle.hfs_database.specs.declared.tables.Found.TheVariants as found
 use Rattle.hfs_database.specs.Doing.{HasRun}
+use Rattle.hfs_database.specs.Faults.{IsUnreadable, opening_fault, writing_fault}
 use Rattle.hfs_database.specs.Transactions.{IsCommitted, begun}
 
 -- ---- their texts
@@ -118,15 +122,78 @@ pub record LeavesTablesOrNone {S : Type 0} (g : Ghosts S) (old new : Held S) : T
 
 -- ---- a collection that is opened
 
--- there was none of them, and they were made
+-- there was none of them, and they were made; a crash leaves the file as it was then, or with all of them
 pub record HasMadeTables {S : Type 0} (g : Ghosts S) (old new : Held S) : Type 0 where
   pub asked : Held S
   pub finds : FindsParts g all_parts found.Nothing old asked
   pub makes : HasMadeAll g asked new
+  pub leaves : LeavesTablesOrNone g asked new
 
 -- all of them were there, or none, and they were made since it was asked for
 abbrev pub HasTables : {S : Type 0} → Ghosts S → Bool → Held S → Held S → Type 0
 HasTables g makes old new = FindsParts g all_parts found.All old new ⊎ (IsTrue makes × HasMadeTables g old new)
+
+-- ---- what can't be looked for, or can't be made
+
+-- this column of a row can't be read as an integer, or memory was refused
+abbrev pub IsUntoldAt : List Value → ℕ → DatabaseFault → Type 0
+IsUntoldAt row at fault = (fault ≡ NoMemory) ⊎ ((fault ≡ CannotOpen Unreadable) × IsUnreadable IsInt row at)
+
+-- the row doesn't say how many there are; or there is one, and it doesn't say whether that has the text
+abbrev pub IsUntold : List Value → DatabaseFault → Type 0
+IsUntold row fault = IsUntoldAt row 0 fault ⊎ ((column row 0 ≡ Int (pos 1)) × IsUntoldAt row 1 fault)
+
+-- it was asked for this part, where the disk is clean still, and the answer is an error that has this fault, or a row that doesn't tell
+abbrev pub FailsToFind : State → State → Part → DatabaseFault → Type 0
+FailsToFind old new part fault =
+    ∥ ((error : Error) × (fault ≡ opening_fault error) × (HasCleanDisk new → QueriesRow find_part_text (Text part.name ∷ Text part.text ∷ []) old new (Err error))) ∥₁
+    ⊎ ((row : List Value) × (HasCleanDisk new → QueriesRow find_part_text (Text part.name ∷ Text part.text ∷ []) old new (Ok row)) × IsUntold row fault)
+
+-- it was asked for each of these, one after the other, up to one that can't be looked for
+abbrev pub FailsToFindParts : {S : Type 0} → Ghosts S → List Part → Held S → Held S → DatabaseFault → Type 0
+FailsToFindParts g [] old new fault = ⊥
+FailsToFindParts {S} g (part ∷ parts) old new fault =
+    FailsToFind (state g old) (state g new) part fault
+    ⊎ ((next : Held S) × (found : Found) × FindsPart (state g old) (state g next) part found × FailsToFindParts g parts next new fault)
+
+-- this text was run in the transaction, where the disk is clean still, and gave an error that has this fault
+abbrev pub FailsToMake : State → State → List ℕ → DatabaseFault → Type 0
+FailsToMake old new text fault =
+    ∥ ((error : Error) × (fault ≡ writing_fault error) × (HasCleanDisk new → IsTrue old.in_transaction → ExecutesInside 0 text [] old new (Err error))) ∥₁
+
+-- their texts were run, one after the other, up to one that can't be made
+abbrev pub FailsToMakeParts : {S : Type 0} → Ghosts S → List Part → Held S → Held S → DatabaseFault → Type 0
+FailsToMakeParts g [] old new fault = ⊥
+FailsToMakeParts {S} g (part ∷ parts) old new fault =
+    FailsToMake (state g old) (state g new) part.text fault
+    ⊎ ((next : Held S) × HasRun (state g old) (state g next) part.text [] × FailsToMakeParts g parts next new fault)
+
+-- one of them was not made in the transaction, and it was undone
+pub record HasUndoneMaking {S : Type 0} (g : Ghosts S) (old new : Held S) (fault : DatabaseFault) : Type 0 where
+  pub failed : Held S
+  pub fails : FailsToMakeParts g all_parts (begun old) failed fault
+  pub undone : HasCleanDisk (state g new) → IsRolledBack (state g failed) (state g new)
+
+-- all were made in the transaction, and it could not be committed
+pub record FailsToCommitAll {S : Type 0} (g : Ghosts S) (old new : Held S) (fault : DatabaseFault) : Type 0 where
+  pub made : Held S
+  pub makes : MakesParts g all_parts (begun old) made
+  pub uncommitted : ∥ ((error : Error) × (fault ≡ writing_fault error) × (HasCleanDisk (state g new) → FailsToCommit (state g made) (state g new) error)) ∥₁
+
+-- a transaction was under way already
+abbrev pub HasOpenTransaction : {S : Type 0} → Held S → Held S → DatabaseFault → Type 0
+HasOpenTransaction old new fault = IsTrue old.in_transaction × (new ≡ old) × (fault ≡ CannotWrite)
+
+-- they were not made: a transaction was under way, one of them can't be made, or they can't be committed
+abbrev pub FailsToMakeAll : {S : Type 0} → Ghosts S → Held S → Held S → DatabaseFault → Type 0
+FailsToMakeAll g old new fault = HasOpenTransaction old new fault ⊎ (HasUndoneMaking g old new fault ⊎ FailsToCommitAll g old new fault)
+
+-- there was none of them, and they were not made; a crash leaves the file as it was then, or with all of them
+pub record HasNotMade {S : Type 0} (g : Ghosts S) (old new : Held S) (fault : DatabaseFault) : Type 0 where
+  pub asked : Held S
+  pub finds : FindsParts g all_parts found.Nothing old asked
+  pub fails : FailsToMakeAll g asked new fault
+  pub leaves : LeavesTablesOrNone g asked new
 
 -- ---- a collection that is refused
 
@@ -136,8 +203,18 @@ TellsNoTables (CannotOpen NoTables) = ⊥
 TellsNoTables (CannotOpen OtherTables) = ⊥
 TellsNoTables _ = ⊤
 
--- a collection is refused for other tables where something is there that isn't its own, and for lack of tables where there is none, and none are to be made
+-- some of them can't be looked for; or there was none, they were to be made, and were not
+abbrev pub IsUnknown : {S : Type 0} → Ghosts S → Bool → Held S → Held S → DatabaseFault → Type 0
+IsUnknown g makes old new fault = FailsToFindParts g all_parts old new fault ⊎ (IsTrue makes × HasNotMade g old new fault)
+
+-- a collection is refused for other tables where something is there that isn't its own; for lack of tables where there is none, and none are to be made;
+-- and else for the fault of what can't be looked for, or can't be made
 abbrev pub IsRefusedFor : {S : Type 0} → Ghosts S → Bool → Held S → Held S → DatabaseFault → Type 0
 IsRefusedFor g makes old new (CannotOpen NoTables) = (makes ≡ false) × FindsParts g all_parts found.Nothing old new
 IsRefusedFor g makes old new (CannotOpen OtherTables) = FindsOthers g old new
-IsRefusedFor g makes old new _ = ⊤
+IsRefusedFor g makes old new (CannotOpen Busy) = IsUnknown g makes old new (CannotOpen Busy)
+IsRefusedFor g makes old new (CannotOpen Unreadable) = IsUnknown g makes old new (CannotOpen Unreadable)
+IsRefusedFor g makes old new (CannotOpen Damaged) = IsUnknown g makes old new (CannotOpen Damaged)
+IsRefusedFor g makes old new (CannotOpen System) = IsUnknown g makes old new (CannotOpen System)
+IsRefusedFor g makes old new CannotWrite = IsUnknown g makes old new CannotWrite
+IsRefusedFor g makes old new NoMemory = IsUnknown g makes old new NoMemory

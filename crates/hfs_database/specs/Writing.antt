@@ -8,7 +8,7 @@ use Rattle.hfs_database.specs.declared.fault.DatabaseFault.{DatabaseFault}
 use Rattle.hfs_database.specs.declared.fault.DatabaseFault.TheVariants.{NoMemory}
 use Rattle.hfs_database.specs.declared.listing.Listing.{Listing}
 use Rattle.hfs_database.specs.declared.listing.Listing.TheVariants.{Volumes, Copies}
-use Rattle.hfs_database.specs.Faults.{FailsToShow}
+use Rattle.hfs_database.specs.Faults.{FailsToAnswer}
 use Rattle.hfs_database.specs.Listing.{IsListed, listing_text}
 use Rattle.hfs_texts.specs.Writing.{AppendsFront}
 use Rattle.hfs_database.specs.declared.collection_texts.CollectionTexts.{CollectionTexts}
@@ -33,7 +33,7 @@ WritesPageFront g old new texts before after = (page : List ℕ) × IsPage g old
 
 -- the database was asked for a listing, and answered an error that has this fault
 abbrev pub FailsToList : {S : Type 0} → Ghosts S → Held S → Held S → Listing → DatabaseFault → Type 0
-FailsToList g old new listing fault = FailsToShow (state g old) (state g new) (listing_text listing) [] fault
+FailsToList g old new listing fault = FailsToAnswer (state g old) (state g new) (listing_text listing) [] fault
 
 -- the volumes were listed, and after them the contents were not, for this fault
 pub record IsUnlistedAfter {S : Type 0} (g : Ghosts S) (old new : Held S) (fault : DatabaseFault) : Type 0 where

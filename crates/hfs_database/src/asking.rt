@@ -6,7 +6,7 @@ ghost use Rattle.sqlite.specs.Values.{bound, bound_value};
 ghost use Rattle.sqlite_value.specs.Order.{column};
 ghost use Rattle.sqlite_value.specs.Value.{owned};
 ghost use Rattle.hfs_database.specs.Asking.{IsAnswered, IsKnown, IsNext, TellsImage, known_image_text, next_path_text, text_or_null};
-ghost use Rattle.hfs_database.specs.Faults.{FailsToAnswer, FailsToTell, IsUnreadIn};
+ghost use Rattle.hfs_database.specs.Faults.{FailsToAnswer, FailsToTell, IsTextOrNull, IsUnreadAt, IsUnreadImage, IsUnreadPath};
 
 use crate::collection::Collection;
 use crate::comparing::KnownImage;
@@ -15,7 +15,7 @@ use sqlite::types::ValueRef;
 use sqlite::{Alter, Connection, Error, Row};
 
 /// The first row of the answer to a question, if it has one. Faults: `CannotWrite` if the database can't be read, `NoMemory`.
-#[tactic(auto, using(crate::proofs::FaultLemmas::fails_to_answer))]
+#[tactic(auto, using(crate::proofs::FaultLemmas::fails_but_for_rows))]
 fn first_row<S: Alter>(
     conn: &mut Connection<S>,
     text: &str,
@@ -36,7 +36,7 @@ fn first_row<S: Alter>(
 /// The digest in a row, after the number of bytes, if it has one.
 #[tactic(auto, using(crate::proofs::FaultLemmas::unread_at))]
 fn digest_in(row: &Row) -> Result<Option<String>, DatabaseFault>
-    ensures fault { IfErr result (IsUnreadIn row.now) }
+    ensures fault { IfErr result (IsUnreadAt IsTextOrNull row.now 1) }
     ensures digest { IfOk result (λ digest. column row.now 1 ≡ text_or_null digest) }
 {
     match row.get(1) {
@@ -48,7 +48,7 @@ fn digest_in(row: &Row) -> Result<Option<String>, DatabaseFault>
 /// What a row says about an image.
 #[tactic(auto, using(crate::proofs::FaultLemmas::unread_at))]
 fn image_of(row: &Row) -> Result<KnownImage, DatabaseFault>
-    ensures fault { IfErr result (IsUnreadIn row.now) }
+    ensures fault { IfErr result (IsUnreadImage row.now) }
     ensures image { IfOk result (TellsImage row.now) }
 {
     let digest = digest_in(row)?;
@@ -61,7 +61,7 @@ fn image_of(row: &Row) -> Result<KnownImage, DatabaseFault>
 /// The path that a row begins with.
 #[tactic(auto, using(crate::proofs::FaultLemmas::unread_at))]
 fn path_in(row: &Row) -> Result<String, DatabaseFault>
-    ensures fault { IfErr result (IsUnreadIn row.now) }
+    ensures fault { IfErr result (IsUnreadPath row.now) }
     ensures path { IfOk result (λ path. column row.now 0 ≡ Text (string_bytes path)) }
 {
     match row.get(0) {
@@ -89,7 +89,7 @@ pub fn known_image<S: Alter>(
 ) -> Result<Option<KnownImage>, DatabaseFault>
     ensures known { IfOk result (IsKnown (state S.Store collection.old.conn)
         (state S.Store collection.new.conn) path.now) }
-    ensures fault { IfErr result (FailsToTell (state S.Store collection.old.conn)
+    ensures fault { IfErr result (FailsToTell IsUnreadImage (state S.Store collection.old.conn)
         (state S.Store collection.new.conn) known_image_text (Text path.now ∷ [])) }
 {
     let parameters = [ValueRef::Text(path.as_bytes())];
@@ -109,7 +109,7 @@ pub fn next_path<S: Alter>(
 ) -> Result<Option<String>, DatabaseFault>
     ensures next { IfOk result (IsNext (state S.Store collection.old.conn)
         (state S.Store collection.new.conn) last.now) }
-    ensures fault { IfErr result (FailsToTell (state S.Store collection.old.conn)
+    ensures fault { IfErr result (FailsToTell IsUnreadPath (state S.Store collection.old.conn)
         (state S.Store collection.new.conn) next_path_text (text_or_null last.now ∷ [])) }
 {
     let parameters = [parameter(last)];

@@ -23,7 +23,6 @@ pub struct Collection<S: Alter> {
 
 /// Looks for the tables of a collection, or makes them if there are none and this is asked for. Faults: as for
 /// [`Collection::over`].
-#[tactic(auto, using(crate::proofs::TableLemmas::refused_elsewhere, crate::proofs::TableLemmas::refused_by))]
 fn want_tables<S: Alter>(conn: &mut Connection<S>, makes_tables: bool) -> Result<(), DatabaseFault>
     ensures tables { OnOk result (HasTables S.Store makes_tables conn.old conn.new) }
     ensures refused { IfErr result (IsRefusedFor S.Store makes_tables conn.old conn.new) }

@@ -1,7 +1,7 @@
 //! What a page of a collection lists: rows of texts.
 ghost use Rattle.std.specs.Prelude.{◌≡◌, [], IfErr, IfOk};
 ghost use Rattle.sqlite.specs.Held.{state};
-ghost use Rattle.hfs_database.specs.Faults.{FailsToShow};
+ghost use Rattle.hfs_database.specs.Faults.{FailsToAnswer};
 ghost use Rattle.hfs_database.specs.Listing.{IsListed, IsShown, listing_text};
 
 use crate::collection::Collection;
@@ -35,11 +35,11 @@ fn listing_text(listing: Listing) -> &'static str
 }
 
 /// All rows that a database returns for a query. Faults: `CannotWrite` if it can't be read, `NoMemory`.
-#[tactic(auto, using(crate::proofs::FaultLemmas::fails_to_show))]
+#[tactic(auto, using(crate::proofs::FaultLemmas::fails_to_answer))]
 fn shown<S: Alter>(conn: &mut Connection<S>, text: &str) -> Result<Vec<Row>, DatabaseFault>
     ensures shown { IfOk result (λ rows. IsShown (state S.Store conn.old) (state S.Store conn.new)
         text.now rows.items) }
-    ensures fault { IfErr result (FailsToShow (state S.Store conn.old) (state S.Store conn.new)
+    ensures fault { IfErr result (FailsToAnswer (state S.Store conn.old) (state S.Store conn.new)
         text.now []) }
 {
     match conn.query_all(text, &[]) {
@@ -55,7 +55,7 @@ pub fn listed<S: Alter>(
 ) -> Result<Vec<Row>, DatabaseFault>
     ensures listed { IfOk result (λ rows. IsListed (state S.Store collection.old.conn)
         (state S.Store collection.new.conn) listing rows.items) }
-    ensures fault { IfErr result (FailsToShow (state S.Store collection.old.conn)
+    ensures fault { IfErr result (FailsToAnswer (state S.Store collection.old.conn)
         (state S.Store collection.new.conn) (listing_text listing) []) }
 {
     shown(&mut collection.conn, listing_text(listing))

@@ -1,12 +1,14 @@
 //! The tables of a collection.
 ghost use Rattle.std.specs.Prelude.{◌≡◌, [], ◌∷◌, IfErr, IfOk, OnOk};
+ghost use Rattle.sqlite.specs.declared.types.Value.TheVariants.{Int};
 ghost use Rattle.sqlite.specs.Held.{state};
+ghost use Rattle.sqlite_value.specs.Order.{column};
 ghost use Rattle.hfs_database.specs.Doing.{HasRun};
-ghost use Rattle.hfs_database.specs.Tables.{FindsPart, FindsTables, HasMadeAll, LeavesTablesOrNone, MakesParts, Tells, TellsNoTables, all_parts, part_of};
+ghost use Rattle.hfs_database.specs.Tables.{FailsToFind, FailsToFindParts, FailsToMake, FailsToMakeAll, FailsToMakeParts, FindsPart, FindsTables, HasMadeAll, IsUntold, IsUntoldAt, LeavesTablesOrNone, MakesParts, Tells, TellsNoTables, all_parts, part_of};
 ghost use Rattle.hfs_database.specs.Tables as spec;
 ghost use Rattle.hfs_database.specs.Transactions.{KeepsFile};
 
-use crate::fault::{DatabaseFault, Obstacle, opening_fault, writing_fault};
+use crate::fault::{DatabaseFault, opening_fault, writing_fault};
 use sqlite::types::ValueRef;
 use sqlite::{Alter, Connection, Row, Transaction};
 
@@ -82,24 +84,34 @@ impl Found {
     }
 }
 
+/// The integer in a column of a row.
+fn integer_at(row: &Row, at: usize) -> Result<i64, DatabaseFault>
+    ensures integer { IfOk result (λ n. column row.now at ≡ Int n) }
+    ensures fault { IfErr result TellsNoTables }
+    ensures untold { IfErr result (IsUntoldAt row.now at) }
+{
+    match row.get(at) {
+        Ok(n) => Ok(n),
+        Err(error) => Err(opening_fault(&error)),
+    }
+}
+
 /// What a row says about a table or an index that was looked for.
 fn told_in(row: &Row) -> Result<Found, DatabaseFault>
     ensures tells { IfOk result (Tells row.now) }
     ensures fault { IfErr result TellsNoTables }
+    ensures untold { IfErr result (IsUntold row.now) }
 {
-    let Ok(there) = row.get::<i64>(0) else {
-        return Err(DatabaseFault::CannotOpen(Obstacle::Unreadable));
-    };
+    let there = integer_at(row, 0)?;
     if there == 0 {
         return Ok(Found::Nothing);
     }
     if there != 1 {
         return Ok(Found::Other);
     }
-    match row.get::<i64>(1) {
-        Ok(1) => Ok(Found::All),
-        Ok(_) => Ok(Found::Other),
-        Err(_) => Err(DatabaseFault::CannotOpen(Obstacle::Unreadable)),
+    match integer_at(row, 1)? {
+        1 => Ok(Found::All),
+        _ => Ok(Found::Other),
     }
 }
 
@@ -109,6 +121,8 @@ fn find<S: Alter>(conn: &mut Connection<S>, name: &str, text: &str) -> Result<Fo
     ensures found { IfOk result (FindsPart (state S.Store conn.old) (state S.Store conn.new)
         (part_of name.now text.now)) }
     ensures fault { IfErr result TellsNoTables }
+    ensures unfound { IfErr result (FailsToFind (state S.Store conn.old) (state S.Store conn.new)
+        (part_of name.now text.now)) }
 {
     let parameters = [
         ValueRef::Text(name.as_bytes()),
@@ -127,6 +141,7 @@ fn find<S: Alter>(conn: &mut Connection<S>, name: &str, text: &str) -> Result<Fo
 pub(crate) fn find_tables<S: Alter>(conn: &mut Connection<S>) -> Result<Found, DatabaseFault>
     ensures found { IfOk result (λ found. FindsTables S.Store found conn.old conn.new) }
     ensures fault { IfErr result TellsNoTables }
+    ensures unfound { IfErr result (FailsToFindParts S.Store all_parts conn.old conn.new) }
 {
     let image = find(conn, "image", image_table())?;
     let volume = find(conn, "volume", volume_table())?;
@@ -143,6 +158,8 @@ fn make<S: Alter>(tx: &mut Transaction<'_, S>, text: &str) -> Result<(), Databas
     ensures same_reference { tx.new.conn.ghost_name ≡ tx.old.conn.ghost_name }
     ensures keeps { KeepsFile S.Store tx.old.conn.now tx.new.conn.now }
     ensures fault { IfErr result TellsNoTables }
+    ensures unmade { IfErr result (FailsToMake (state S.Store tx.old.conn.now)
+        (state S.Store tx.new.conn.now) text.now) }
 {
     match tx.execute(text, &[]) {
         Ok(_) => Ok(()),
@@ -157,6 +174,8 @@ fn make_parts<S: Alter>(tx: &mut Transaction<'_, S>) -> Result<(), DatabaseFault
     ensures same_reference { tx.new.conn.ghost_name ≡ tx.old.conn.ghost_name }
     ensures keeps { KeepsFile S.Store tx.old.conn.now tx.new.conn.now }
     ensures fault { IfErr result TellsNoTables }
+    ensures unmade { IfErr result (FailsToMakeParts S.Store all_parts
+        tx.old.conn.now tx.new.conn.now) }
 {
     make(tx, image_table())?;
     make(tx, volume_table())?;
@@ -169,6 +188,7 @@ fn make_parts<S: Alter>(tx: &mut Transaction<'_, S>) -> Result<(), DatabaseFault
 pub(crate) fn make_tables<S: Alter>(conn: &mut Connection<S>) -> Result<(), DatabaseFault>
     ensures made { OnOk result (HasMadeAll S.Store conn.old conn.new) }
     ensures fault { IfErr result TellsNoTables }
+    ensures unmade { IfErr result (FailsToMakeAll S.Store conn.old conn.new) }
     ensures all_or_none { LeavesTablesOrNone S.Store conn.old conn.new }
 {
     if !conn.is_autocommit() {

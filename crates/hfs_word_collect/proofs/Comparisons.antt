@@ -11,7 +11,7 @@ use Rattle.hfs_bag.specs.Failing.{SomeFail}
 use Rattle.hfs_source.specs.Images.{FailsWhere, OfEach}
 use Rattle.sqlite.specs.declared.types.Value.TheVariants.{Text}
 use Rattle.hfs_database.specs.Asking.{IsKnown, known_image_text}
-use Rattle.hfs_database.specs.Faults.{FailsToTell}
+use Rattle.hfs_database.specs.Faults.{FailsToTell, IsUnreadImage}
 use Rattle.hfs_database.specs.declared.fault.DatabaseFault.{DatabaseFault}
 use Rattle.hfs_database.specs.Comparing.{by_digest, comparison, needs_digest}
 use Rattle.hfs_database.specs.declared.comparing.Comparison.{Comparison}
@@ -116,7 +116,7 @@ read_before (Err why) Holds Later Before later told = tt
 
 -- ---- why it is not compared
 
-pub fails_by_database : (old new : State) (path : List ℕ) (fault : RunFault) (why : DatabaseFault) → fault ≡ database_fault why → FailsToTell old new known_image_text (Text path ∷ []) why
+pub fails_by_database : (old new : State) (path : List ℕ) (fault : RunFault) (why : DatabaseFault) → fault ≡ database_fault why → FailsToTell IsUnreadImage old new known_image_text (Text path ∷ []) why
     → FailsToCompare old new path fault
 fails_by_database old new path fault why is fails = inl (why, is, fails)
 

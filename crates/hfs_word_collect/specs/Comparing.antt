@@ -6,7 +6,7 @@ use Rattle.hfs_database.specs.declared.comparing.Comparison.{Comparison}
 use Rattle.sqlite.specs.State.{State}
 use Rattle.sqlite.specs.declared.types.Value.TheVariants.{Text}
 use Rattle.hfs_database.specs.Asking.{IsKnown, known_image_text}
-use Rattle.hfs_database.specs.Faults.{FailsToTell}
+use Rattle.hfs_database.specs.Faults.{FailsToTell, IsUnreadImage}
 use Rattle.hfs_database.specs.declared.fault.DatabaseFault.{DatabaseFault}
 use Rattle.hfs_database.specs.declared.comparing.Comparison.TheVariants.{Missing, New}
 use Rattle.hfs_database.specs.declared.comparing.KnownImage.{KnownImage}
@@ -50,5 +50,5 @@ IsReadUnless Holds Fails found = (found ≢ Missing) ⊎ SomeFail Holds Fails
 -- or it has the image, and memory was refused after that
 abbrev pub FailsToCompare : State → State → List ℕ → RunFault → Type 0
 FailsToCompare old new path fault =
-    ((why : DatabaseFault) × (fault ≡ database_fault why) × FailsToTell old new known_image_text (Text path ∷ []) why)
+    ((why : DatabaseFault) × (fault ≡ database_fault why) × FailsToTell IsUnreadImage old new known_image_text (Text path ∷ []) why)
     ⊎ ((fault ≡ run.NoMemory) × ((known : KnownImage) × IsKnown old new path (Some known)))

@@ -4,7 +4,7 @@ use Rattle.sqlite.specs.declared.types.Value.TheVariants.{Text}
 use Rattle.sqlite.specs.Held.{state}
 use Rattle.hfs_database.specs.Asking.{IsAnswered, known_image_text}
 use Rattle.hfs_database.specs.declared.fault.DatabaseFault.{DatabaseFault}
-use Rattle.hfs_database.specs.Faults.{FailsToAnswer, FailsToTell}
+use Rattle.hfs_database.specs.Faults.{FailsToAnswer, FailsToTell, IsUnreadImage}
 use Rattle.hfs_database.proofs.FaultLemmas.{passed_on}
 use Rattle.hfs_database.proofs.asking.known_image.Goals as goal
 
@@ -33,7 +33,7 @@ returns-in_err-row-clause-fault g c =
     subst (λ (path : List ℕ). FailsToAnswer (state g.S.Store c.args.collection.now.conn) (state g.S.Store c.first_row.new.conn) known_image_text (Text path ∷ []) c.in_err-row.field-0.0)
     c.as_bytes.ensures.value c.in_err-row.ensures.fault in
     passed_on c.from_residual.result c.in_err-row.field-0.0
-    (λ (fault : DatabaseFault). FailsToTell (state g.S.Store c.args.collection.now.conn) (state g.S.Store c.first_row.new.conn) known_image_text (Text c.args.path.now ∷ []) fault)
+    (λ (fault : DatabaseFault). FailsToTell IsUnreadImage (state g.S.Store c.args.collection.now.conn) (state g.S.Store c.first_row.new.conn) known_image_text (Text c.args.path.now ∷ []) fault)
     c.from_residual.ensures.1 (inl failed)
 
 pub returns-in_err-image_of-in-Some-clause-fault : goal.returns-in_err-image_of-in-Some-clause-fault
@@ -45,5 +45,5 @@ returns-in_err-image_of-in-Some-clause-fault g c =
     let found : IsAnswered (state g.S.Store c.args.collection.now.conn) (state g.S.Store c.first_row.new.conn) known_image_text (Text c.args.path.now ∷ []) (Some c.in-Some.row) =
     subst (IsAnswered (state g.S.Store c.args.collection.now.conn) (state g.S.Store c.first_row.new.conn) known_image_text (Text c.args.path.now ∷ [])) c.in-Some.is asked in
     passed_on c.from_residual-in_err-image_of-in-Some.result c.in_err-image_of-in-Some.field-0.0
-    (λ (fault : DatabaseFault). FailsToTell (state g.S.Store c.args.collection.now.conn) (state g.S.Store c.first_row.new.conn) known_image_text (Text c.args.path.now ∷ []) fault)
+    (λ (fault : DatabaseFault). FailsToTell IsUnreadImage (state g.S.Store c.args.collection.now.conn) (state g.S.Store c.first_row.new.conn) known_image_text (Text c.args.path.now ∷ []) fault)
     c.from_residual-in_err-image_of-in-Some.ensures.1 (inr (c.in-Some.row, found, c.in_err-image_of-in-Some.ensures.fault))

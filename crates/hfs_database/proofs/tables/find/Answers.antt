@@ -1,20 +1,33 @@
--- The parameters are the name and the text, and the answer's row tells.
-use Rattle.std.proofs.Common.{◌∷◌, [], List, ℕ, Ok, subst}
+-- The parameters are the name and the text, and the answer's row tells, or doesn't.
+use Rattle.std.proofs.Common.{◌≡◌, ◌∷◌, [], List, ℕ, Result, Ok, Err, ap, inl, subst}
+use Rattle.sqlite.specs.declared.error.Error.{Error}
+use Rattle.sqlite.specs.declared.types.Value.{Value}
 use Rattle.sqlite.specs.declared.types.Value.TheVariants.{Text}
 use Rattle.sqlite.specs.Held.{state}
 use Rattle.sqlite.specs.State.{HasCleanDisk, QueriesRow}
-use Rattle.hfs_database.specs.Tables.{find_part_text}
-use Rattle.hfs_database.proofs.TableLemmas.{if_ok}
+use Rattle.hfs_database.specs.Tables.{find_part_text, part_of}
+use Rattle.hfs_database.proofs.TableLemmas.{asked_by, if_ok, unfound_by}
 use Rattle.hfs_database.proofs.tables.find.Goals as goal
 
 pub returns-in-Ok-clause-found : goal.returns-in-Ok-clause-found
 unfolding find_part_text
 returns-in-Ok-clause-found g c =
-    let old = state g.S.Store c.args.conn.now in
-    let new = state g.S.Store c.query_row.new.self in
-    let asked : HasCleanDisk new → QueriesRow find_part_text (Text c.as_bytes.result.now ∷ Text c.as_bytes-2.result.now ∷ []) old new (Ok c.in-Ok.row) = c.in-Ok.ensures.row in
-    let named : HasCleanDisk new → QueriesRow find_part_text (Text c.args.name.now ∷ Text c.as_bytes-2.result.now ∷ []) old new (Ok c.in-Ok.row) =
-    subst (λ (name : List ℕ). HasCleanDisk new → QueriesRow find_part_text (Text name ∷ Text c.as_bytes-2.result.now ∷ []) old new (Ok c.in-Ok.row)) c.as_bytes.ensures.value asked in
-    let whole : HasCleanDisk new → QueriesRow find_part_text (Text c.args.name.now ∷ Text c.args.text.now ∷ []) old new (Ok c.in-Ok.row) =
-    subst (λ (text : List ℕ). HasCleanDisk new → QueriesRow find_part_text (Text c.args.name.now ∷ Text text ∷ []) old new (Ok c.in-Ok.row)) c.as_bytes-2.ensures.value named in
-    if_ok c.told_in.result (λ found tells clean. (c.in-Ok.row, whole clean, tells)) c.told_in.ensures.tells
+    let asked = asked_by (state g.S.Store c.args.conn.now) (state g.S.Store c.query_row.new.self) (Ok c.in-Ok.row) c.as_bytes.ensures.value c.as_bytes-2.ensures.value c.in-Ok.ensures.row in
+    if_ok c.told_in.result (λ found tells clean. (c.in-Ok.row, asked clean, tells)) c.told_in.ensures.tells
+
+pub returns-in-Ok-clause-unfound : goal.returns-in-Ok-clause-unfound
+unfolding find_part_text
+returns-in-Ok-clause-unfound g c =
+    unfound_by (state g.S.Store c.args.conn.now) (state g.S.Store c.query_row.new.self) (part_of c.args.name.now c.args.text.now) c.in-Ok.row
+    (asked_by (state g.S.Store c.args.conn.now) (state g.S.Store c.query_row.new.self) (Ok c.in-Ok.row) c.as_bytes.ensures.value c.as_bytes-2.ensures.value c.in-Ok.ensures.row)
+    c.told_in.result c.told_in.ensures.untold
+
+pub returns-in-Err-clause-unfound : goal.returns-in-Err-clause-unfound
+unfolding find_part_text
+returns-in-Err-clause-unfound g c =
+    inl
+    ∣ (
+      c.in-Err.error,
+      c.opening_fault.ensures.fault,
+      asked_by (state g.S.Store c.args.conn.now) (state g.S.Store c.query_row.new.self) (Err c.in-Err.error) c.as_bytes.ensures.value c.as_bytes-2.ensures.value c.in-Err.ensures.row,
+    ) ∣₁
