@@ -65,6 +65,7 @@ HEADLINE = [
     'hfs_word_collect/collected_image_told_as_unread',
     'hfs_word_collect/readable_image_told_as_missing',
     'hfs_database/unknown_image_told_as_unread',
+    'hfs_console/each_given_number_is_refused',
     'hfs_page/a_row_that_comes_twice',
     'hfs_page/a_legend_that_ends_another_element',
 ]

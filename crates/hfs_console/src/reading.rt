@@ -2,8 +2,9 @@
 
 ghost use Rattle.std.specs.Prelude.{◌≡◌, ◌≢◌, ℕ, List, [], None, Some, Ok, IfOk, IsErr, MatchBool, MatchResult, map, option_map};
 ghost use Rattle.std.specs.Option.{option_map_or};
-ghost use Rattle.std.specs.Str.Parse.{digits_value, false_text, true_text, without_leading_plus};
+ghost use Rattle.std.specs.Str.Parse.{ParsesUnsigned, false_text, true_text};
 ghost use Rattle.clap.specs.Matches.{first_value, found_of, matched_of, one_text, raw_values};
+ghost use Rattle.hfs_console.specs.Numbers.{ReadsNumber};
 
 use crate::declaration::Argument;
 use clap::ArgMatches;
@@ -53,7 +54,7 @@ impl Argument {
     pub fn number(&self, matches: &ArgMatches<'_>) -> Result<u32, NoValue>
         ensures none { one_text (found_of matches.now) self.now.name.now ≡ None → IsErr result }
         ensures number { (text : List ℕ) → one_text (found_of matches.now) self.now.name.now ≡ Some text
-            → IfOk result (λ n. n ≡ digits_value 10 (without_leading_plus text)) }
+            → ParsesUnsigned 32 10 text result }
     {
         match matches.get_one::<u32>(self.name) {
             Some(number) => Ok(number),
@@ -65,7 +66,7 @@ impl Argument {
     pub fn given_number(&self, matches: &ArgMatches<'_>) -> Result<Option<u32>, NoValue>
         ensures none { one_text (found_of matches.now) self.now.name.now ≡ None → result ≡ Ok None }
         ensures number { (text : List ℕ) → one_text (found_of matches.now) self.now.name.now ≡ Some text
-            → IfOk result (λ n. n ≡ Some (digits_value 10 (without_leading_plus text))) }
+            → ReadsNumber 32 text result }
     {
         match matches.try_get_one::<u32>(self.name) {
             Ok(found) => Ok(found),
@@ -77,7 +78,7 @@ impl Argument {
     pub fn given_count(&self, matches: &ArgMatches<'_>) -> Result<Option<u64>, NoValue>
         ensures none { one_text (found_of matches.now) self.now.name.now ≡ None → result ≡ Ok None }
         ensures number { (text : List ℕ) → one_text (found_of matches.now) self.now.name.now ≡ Some text
-            → IfOk result (λ n. n ≡ Some (digits_value 10 (without_leading_plus text))) }
+            → ReadsNumber 64 text result }
     {
         match matches.try_get_one::<u64>(self.name) {
             Ok(number) => Ok(number),
