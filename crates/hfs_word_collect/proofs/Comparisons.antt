@@ -6,7 +6,9 @@ use Rattle.hex.specs.Hex.{encode_lower}
 use Rattle.sha2.specs.Sha256.{sha256}
 use Rattle.std.specs.Cmp.Lexicographic.{pointwise}
 use Rattle.std.proofs.Math.Logic.{∥∥₁_map}
+use Rattle.sqlite.specs.Held.{Held, state}
 use Rattle.sqlite.specs.State.{State}
+use Rattle.sqlite.specs.Store.{Ghosts}
 use Rattle.hfs_bag.specs.Failing.{SomeFail}
 use Rattle.hfs_source.specs.Images.{FailsWhere, OfEach}
 use Rattle.sqlite.specs.declared.types.Value.TheVariants.{Text}
@@ -20,7 +22,7 @@ use Rattle.hfs_database.specs.declared.comparing.KnownImage.{KnownImage}
 use Rattle.hfs_word_collect.specs.Answers.{database_fault}
 use Rattle.hfs_word_collect.specs.declared.collect_fault.RunFault.{RunFault}
 use Rattle.hfs_word_collect.specs.declared.collect_fault.RunFault.TheVariants as run
-use Rattle.hfs_word_collect.specs.Comparing.{FailsToCompare, IsAsked, IsCompared, IsComparedIn, IsComparison, IsReadUnless}
+use Rattle.hfs_word_collect.specs.Comparing.{FailsToCompare, IsAsked, IsAskedOrMissing, IsCompared, IsComparedIn, IsComparison, IsReadUnless}
 
 -- a length and a digest tell it
 pub told_by : (known : KnownImage) (found : Comparison) (len : ℕ) (digits : List ℕ) → found ≡ comparison known len digits → IsComparison known found
@@ -30,15 +32,21 @@ told_by known found len digits is = λ read. ∣ (len, digits, is) ∣₁
 pub told_missing : (known : KnownImage) → IsComparison known Missing
 told_missing known = λ read. absurd (read refl)
 
-pub asked_missing : (old new : State) (path : List ℕ) → IsAsked old new path Missing
-asked_missing old new path = λ read. absurd (read refl)
+pub asked_missing : {S : Type 0} (g : Ghosts S) (old : Held S) (path : List ℕ) → IsAskedOrMissing g old old path Missing
+asked_missing g old path = inl (refl, refl)
+
+-- it was asked before
+pub asked_or_missing : {S E : Type 0} (g : Ghosts S) (result : Result Comparison E) (old new : Held S) (path : List ℕ) → IfOk result (IsAsked (state g old) (state g new) path)
+    → IfOk result (IsAskedOrMissing g old new path)
+asked_or_missing g (Ok found) old new path asked = inr asked
+asked_or_missing g (Err why) old new path asked = tt
 
 pub compared_missing : (old new : State) (path file : List ℕ) → IsComparedIn old new path Missing file
 compared_missing old new path file = λ read. absurd (read refl)
 
 -- the database has no row of the path
 pub asked_new : (old new : State) (path : List ℕ) → IsKnown old new path None → IsAsked old new path New
-asked_new old new path known = λ read. ∣ (None, known, refl) ∣₁
+asked_new old new path known = ∣ (None, known, refl) ∣₁
 
 pub compared_new : (old new : State) (path file : List ℕ) → IsKnown old new path None → IsComparedIn old new path New file
 compared_new old new path file known = λ read. ∣ (None, known, refl) ∣₁
@@ -46,7 +54,7 @@ compared_new old new path file known = λ read. ∣ (None, known, refl) ∣₁
 -- the database has this row of it
 pub asked_known : {E : Type 0} (result : Result Comparison E) (old new : State) (path : List ℕ) (known : KnownImage) → IsKnown old new path (Some known)
     → IfOk result (IsComparison known) → IfOk result (IsAsked old new path)
-asked_known (Ok found) old new path known is told = λ read. ∣ (Some known, is, told) ∣₁
+asked_known (Ok found) old new path known is told = ∣ (Some known, is, told) ∣₁
 asked_known (Err why) old new path known is told = tt
 
 pub compared_known : {E : Type 0} (result : Result Comparison E) (Holds : List ℕ → Type 0) (old new : State) (path : List ℕ) (known : KnownImage) → IsKnown old new path (Some known)

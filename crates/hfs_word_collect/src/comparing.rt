@@ -7,7 +7,7 @@ ghost use Rattle.hfs_bag.specs.Failing.{SomeFail};
 ghost use Rattle.hfs_database.specs.Comparing.{comparison};
 ghost use Rattle.hfs_database.specs.declared.comparing.Comparison.TheVariants.{Missing};
 ghost use Rattle.hfs_source.specs.Images.{FailsWhere, OfEach};
-ghost use Rattle.hfs_word_collect.specs.Comparing.{FailsToCompare, IsAsked, IsCompared, IsComparedIn, IsComparison, IsReadUnless};
+ghost use Rattle.hfs_word_collect.specs.Comparing.{FailsToCompare, IsAsked, IsAskedOrMissing, IsCompared, IsComparedIn, IsComparison, IsReadUnless};
 ghost use Rattle.hfs_word_collect.specs.declared.collect_fault.RunFault.TheVariants.{NoMemory};
 
 use crate::Reopen;
@@ -114,15 +114,15 @@ fn read_first<S: PlacedBytes>(source: &mut S) -> io::Result<()>
 
 /// How an opened image compares to what the database has for its path, as [`compare_file`] says; `Missing` also if its first byte
 /// can't be read, and then the database isn't asked. This holds for every image consistent with the bytes read.
-#[tactic(auto, using(crate::proofs::Comparisons::asked_missing, crate::proofs::Comparisons::compared_missing, crate::proofs::Comparisons::unread_missing, crate::proofs::Comparisons::read_before))]
+#[tactic(auto, using(crate::proofs::Comparisons::asked_missing, crate::proofs::Comparisons::asked_or_missing, crate::proofs::Comparisons::compared_missing, crate::proofs::Comparisons::unread_missing, crate::proofs::Comparisons::read_before))]
 pub fn compare_image<D: Alter + Drop, S: PlacedBytes>(
     alloc: Global,
     collection: &mut Collection<D>,
     path: &str,
     source: &mut S,
 ) -> Result<Comparison, RunFault>
-    ensures asked { IfOk result (IsAsked (state D.Store collection.old.conn)
-        (state D.Store collection.new.conn) path.now) }
+    ensures asked { IfOk result (IsAskedOrMissing D.Store
+        collection.old.conn collection.new.conn path.now) }
     ensures compared { IfOk result (λ found. OfEach (S.Holds source.new) (IsComparedIn
         (state D.Store collection.old.conn) (state D.Store collection.new.conn) path.now found)) }
     ensures read { IfOk result (IsReadUnless (S.Holds source.new) (S.Fails source.old)) }

@@ -1,5 +1,5 @@
 //! Images by their paths.
-ghost use Rattle.std.specs.Prelude.{◌≡◌, IfErr, IfOk, IfSome, IfNone};
+ghost use Rattle.std.specs.Prelude.{◌≡◌, None, IfErr, IfOk, IfSome, IfNone};
 ghost use Rattle.hfs_source.specs.Images.{AllFail, FailsWhere};
 ghost use Rattle.hfs_word_collect.specs.Files.{IsHeldIn, IsLentOf, IsNotHeld, IsSameAs, held_failures};
 
@@ -27,7 +27,10 @@ pub struct FileByPath<'a, R: Files, W> {
 
 impl<'a, R: Files, W> FileByPath<'a, R, W> {
     /// The file at this path, which isn't opened yet.
-    pub fn new(rt: &'a R, path: &'a str, watch: &'a W) -> FileByPath<'a, R, W> {
+    pub fn new(rt: &'a R, path: &'a str, watch: &'a W) -> FileByPath<'a, R, W>
+        ensures path { result.path.now ≡ path.now }
+        ensures held { result.held ≡ None }
+    {
         FileByPath {
             rt,
             path,
@@ -50,7 +53,11 @@ pub fn rows_at<'a, R: Files + AllocGlobal, W: Watch>(
     rt: &'a R,
     facts: &'a ImageFacts<'a>,
     watch: &'a W,
-) -> RowsOfFile<'a, R, W> {
+) -> RowsOfFile<'a, R, W>
+    ensures facts { result.facts.now ≡ facts.now }
+    ensures path { result.file.file.path.now ≡ facts.now.path.now }
+    ensures held { result.file.file.held ≡ None }
+{
     let path = facts.path;
     let file = NotedFile::new(FileByPath::new(rt, path, watch));
     ImageRows::new(rt.alloc(), file, facts)

@@ -37,6 +37,7 @@ pub struct NotedFile<S: PlacedBytes, K: PickedImage, F> {
 impl<S: PlacedBytes, K: PickedImage, F> NotedFile<S, K, F> {
     /// A file that hasn't been opened yet.
     pub fn new(file: F) -> NotedFile<S, K, F>
+        ensures file { result.file ≡ file }
         ensures sources { result.sources.items ≡ [] }
         ensures volumes { result.volumes.items ≡ [] }
         ensures unread { result.is_unread ≡ false }
