@@ -6,7 +6,9 @@ use Rattle.hex.specs.Hex.{encode_lower}
 use Rattle.sha2.specs.Sha256.{sha256}
 use Rattle.std.specs.Cmp.Lexicographic.{pointwise}
 use Rattle.std.proofs.Math.Logic.{∥∥₁_map}
+use Rattle.sqlite.specs.Held.{Held, state}
 use Rattle.sqlite.specs.State.{State}
+use Rattle.sqlite.specs.Store.{Ghosts}
 use Rattle.hfs_bag.specs.Failing.{SomeFail}
 use Rattle.hfs_source.specs.Images.{FailsWhere, OfEach}
 use Rattle.sqlite.specs.declared.types.Value.TheVariants.{Text}
@@ -30,13 +32,14 @@ told_by known found len digits is = λ read. ∣ (len, digits, is) ∣₁
 pub told_missing : (known : KnownImage) → IsComparison known Missing
 told_missing known = λ read. absurd (read refl)
 
-pub asked_missing : (old : State) (path : List ℕ) → IsAskedOrMissing old old path Missing
-asked_missing old path = inl (refl, refl)
+pub asked_missing : {S : Type 0} (g : Ghosts S) (old : Held S) (path : List ℕ) → IsAskedOrMissing g old old path Missing
+asked_missing g old path = inl (refl, refl)
 
 -- it was asked before
-pub asked_or_missing : {E : Type 0} (result : Result Comparison E) (old new : State) (path : List ℕ) → IfOk result (IsAsked old new path) → IfOk result (IsAskedOrMissing old new path)
-asked_or_missing (Ok found) old new path asked = inr asked
-asked_or_missing (Err why) old new path asked = tt
+pub asked_or_missing : {S E : Type 0} (g : Ghosts S) (result : Result Comparison E) (old new : Held S) (path : List ℕ) → IfOk result (IsAsked (state g old) (state g new) path)
+    → IfOk result (IsAskedOrMissing g old new path)
+asked_or_missing g (Ok found) old new path asked = inr asked
+asked_or_missing g (Err why) old new path asked = tt
 
 pub compared_missing : (old new : State) (path file : List ℕ) → IsComparedIn old new path Missing file
 compared_missing old new path file = λ read. absurd (read refl)

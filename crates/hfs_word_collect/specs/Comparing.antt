@@ -3,7 +3,9 @@ use Rattle.std.specs.Prelude.{◌≡◌, ◌≢◌, ◌⊎◌, ℕ, List, [], �
 use Rattle.hex.specs.Hex.{encode_lower}
 use Rattle.sha2.specs.Sha256.{sha256}
 use Rattle.hfs_database.specs.declared.comparing.Comparison.{Comparison}
+use Rattle.sqlite.specs.Held.{Held, state}
 use Rattle.sqlite.specs.State.{State}
+use Rattle.sqlite.specs.Store.{Ghosts}
 use Rattle.sqlite.specs.declared.types.Value.TheVariants.{Text}
 use Rattle.hfs_database.specs.Asking.{IsKnown, known_image_text}
 use Rattle.hfs_database.specs.Faults.{FailsToTell, IsUnreadImage}
@@ -34,8 +36,8 @@ abbrev pub IsAsked : State → State → List ℕ → Comparison → Type 0
 IsAsked old new path found = ∥ ((known : Option KnownImage) × IsKnown old new path known × IsComparisonTo known found) ∥₁
 
 -- it was asked so, or was asked nothing, since the file could not be read
-abbrev pub IsAskedOrMissing : State → State → List ℕ → Comparison → Type 0
-IsAskedOrMissing old new path found = ((found ≡ Missing) × (new ≡ old)) ⊎ IsAsked old new path found
+abbrev pub IsAskedOrMissing : {S : Type 0} → Ghosts S → Held S → Held S → List ℕ → Comparison → Type 0
+IsAskedOrMissing g old new path found = ((found ≡ Missing) × (new ≡ old)) ⊎ IsAsked (state g old) (state g new) path found
 
 -- a file with these bytes compares so with what the database has of the image
 abbrev pub IsComparedTo : Option KnownImage → Comparison → List ℕ → Type 0

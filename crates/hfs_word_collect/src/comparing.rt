@@ -121,8 +121,8 @@ pub fn compare_image<D: Alter + Drop, S: PlacedBytes>(
     path: &str,
     source: &mut S,
 ) -> Result<Comparison, RunFault>
-    ensures asked { IfOk result (IsAskedOrMissing (state D.Store collection.old.conn)
-        (state D.Store collection.new.conn) path.now) }
+    ensures asked { IfOk result (IsAskedOrMissing D.Store
+        collection.old.conn collection.new.conn path.now) }
     ensures compared { IfOk result (λ found. OfEach (S.Holds source.new) (IsComparedIn
         (state D.Store collection.old.conn) (state D.Store collection.new.conn) path.now found)) }
     ensures read { IfOk result (IsReadUnless (S.Holds source.new) (S.Fails source.old)) }
