@@ -22,3 +22,4 @@ pub mod SeenStart
 pub mod SeenFiles
 pub mod SeenRuns
 pub mod Failing
+pub mod KeptLemmas

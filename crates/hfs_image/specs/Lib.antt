@@ -13,3 +13,4 @@ pub mod SeenFiles
 pub mod Paths
 pub mod ForkRuns
 pub mod Failing
+pub mod Kept

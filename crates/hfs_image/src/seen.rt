@@ -1,6 +1,7 @@
 //! An image that is opened and checked once, whose answers hold for every image consistent with the bytes read.
 mod files;
 mod opening;
+mod ranges;
 
 ghost use Rattle.std.specs.Prelude.{◌≡◌, ◌*◌, IfErr, IfOk, None, OnErr, OnOk, length};
 ghost use Rattle.hfs_blocks.specs.Blocks.{AreRunsWithin};
@@ -15,6 +16,7 @@ ghost use Rattle.hfs_image.specs.Paths.{path_told};
 ghost use Rattle.hfs_image.specs.Seen.{IsOpenedBy, IsSeenAs};
 ghost use Rattle.hfs_image.specs.SeenFiles.{LiesInRuns, RefusesFile};
 
+pub use self::ranges::{open_range, open_range_reported};
 use crate::fork_runs::{FileRuns, opened_runs};
 use crate::listing::{catalog_records, list_in_brief};
 use crate::opening::{NeededFault, NeededVolume};
