@@ -29,19 +29,17 @@ PartBlocks F = SeenBlocks (BlocksOf (RangeBytes (OpenedFile F)))
 abbrev pub parts_of : {F : Type 0} → BlocksOf (RangeBytes (OpenedFile F)) → List ℕ → Type 0
 parts_of blocks = IsRangeOf (images_of blocks.bytes.bytes) blocks.bytes.start blocks.bytes.len
 
--- these blocks are those of this part of a file, which reaches to their end
+-- these blocks are those of this part of a file, which reaches to their end; more of the file may have been read since
 pub record AreBlocksOf {F : Type 0} (part : Window (OpenedFile F)) (blocks : BlocksOf (RangeBytes (OpenedFile F))) : Type 0 where
-  pub bytes : blocks.bytes.bytes ≡ part.source
+  pub narrows : OfEach (images_of blocks.bytes.bytes) (images_of part.source)
   pub range : IsPartOf (images_of part.source) part.range blocks.bytes.start blocks.bytes.len
   pub inside : OfEach (images_of part.source) (ReachesTo (blocks.bytes.start + blocks.bytes.len))
 
--- these blocks are what is asked for of a file that was opened, of which more was read since
+-- these blocks are what is asked for of a file that was opened
 pub record AreSeenOf {F : Type 0} (counted : Counted) (volume : Option ℕ) (seen : BlocksOf (RangeBytes (OpenedFile F))) : Type 0 where
   pub part : Window (OpenedFile F)
   pub asked : IsAskedWindow counted volume part
-  pub opened : BlocksOf (RangeBytes (OpenedFile F))
-  pub blocks : AreBlocksOf part opened
-  pub narrows : OfEach (parts_of seen) (parts_of opened)
+  pub blocks : AreBlocksOf part seen
 
 -- what is asked for of a file was not opened, or it is refused
 abbrev pub IsUnseen : Bor (List ℕ) → Option ℕ → Fault → Type 0

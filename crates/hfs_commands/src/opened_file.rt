@@ -131,6 +131,7 @@ impl<F: Read + Seek> OpenedFile<F> {
     pub fn others(&mut self) -> Result<u64, SparseFault>
         ensures others { IfOk result (AreOthersOf self.new) }
         ensures known { IfOk result (AreHeldOthers self.old) }
+        ensures layout { opened_layout self.new ≡ opened_layout self.old }
         ensures files { OfEach (files_of self.new) (files_of self.old) }
         ensures held { OfEach (images_of self.new) (images_of self.old) }
         ensures stays { StaysHeld (held_bytes self.old) (held_bytes self.new) }

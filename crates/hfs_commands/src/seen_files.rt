@@ -1,7 +1,7 @@
 //! Parts of files, whose answers hold for every file consistent with the bytes read.
 ghost use Rattle.std.specs.Prelude.{◌≡◌, ◌+◌, IfErr, IfOk};
 ghost use Rattle.hfs_commands.specs.OpenedFiles.{images_of};
-ghost use Rattle.hfs_commands.specs.SeenFiles.{AreSeenOf, IsPartOf, IsUnseen, parts_of};
+ghost use Rattle.hfs_commands.specs.SeenFiles.{AreBlocksOf, AreSeenOf, IsPartOf, IsUnseen, parts_of};
 ghost use Rattle.hfs_commands.specs.Unopened.{HasNoPart, IsRefusedOf, TellsWhy};
 ghost use Rattle.hfs_image.specs.Seen.{HasNoFault};
 ghost use Rattle.hfs_source.specs.declared.asking.Counted.TheVariants.{Volumes};
@@ -11,7 +11,7 @@ use crate::fault::Fault;
 use crate::opened_file::OpenedFile;
 use crate::unopened::{LeftFile, UnopenedFile};
 use crate::volume_files::open_part;
-use hfs_image::{SeenImage, Unopened};
+use hfs_image::{SeenImage, Unopened, open_range};
 use hfs_source::{BlocksOf, RangeBytes, SeenBlocks, Window};
 use std::io::{Read, Seek};
 use std::rt::Files;
@@ -42,10 +42,7 @@ fn range_of<F: Read + Seek>(part: Window<OpenedFile<F>>) -> RangeBytes<OpenedFil
 /// The blocks of a part of a file. There are none if the part begins past the file's end.
 pub fn part_blocks<F: Read + Seek>(part: Window<OpenedFile<F>>) -> PartBlocks<F>
     ensures bytes { result.blocks.bytes.bytes ≡ part.source }
-    ensures part { IsPartOf (images_of part.source) part.range result.blocks.bytes.start
-        result.blocks.bytes.len }
-    ensures inside { OfEach (images_of part.source)
-        (ReachesTo (result.blocks.bytes.start + result.blocks.bytes.len)) }
+    ensures part { AreBlocksOf part result.blocks }
 {
     let bytes = range_of(part);
     SeenBlocks {
@@ -68,7 +65,7 @@ pub fn open_seen<'a, R: Files + AllocGlobal>(
     ensures fault { IfErr result (λ back. IsUnseen path.entry volume back.fault) }
 {
     let part = open_part(rt, path, volume)?;
-    match SeenImage::open(rt.alloc(), part_blocks(part)) {
+    match open_range(rt.alloc(), part_blocks(part)) {
         Ok(image) => Ok(image),
         Err(Unopened { fault, source }) => {
             let fault = Fault::of_needed(fault, path);

@@ -6,10 +6,12 @@ use Rattle.hfs_check.specs.Report.{report_of}
 use Rattle.hfs_commands.specs.declared.fault.Fault.{Fault}
 use Rattle.hfs_commands.specs.declared.fault.Fault.TheVariants.{CannotRead, NoMemory, Refused}
 use Rattle.hfs_commands.specs.Faults.{IsUnopened, IsUnprinted}
-use Rattle.hfs_commands.specs.OpenedFiles.{failures_of}
-use Rattle.hfs_commands.specs.SeenFiles.{PartBlocks, parts_of}
+use Rattle.hfs_commands.specs.OpenedFiles.{failures_of, images_of}
+use Rattle.hfs_commands.specs.SeenFiles.{AreSeenOf, PartBlocks, parts_of}
 use Rattle.hfs_image.specs.Failing.{SomeReadFails}
+use Rattle.hfs_image.specs.Kept.{IsSameRange}
 use Rattle.hfs_remains_forks.specs.Finds.{found_directory}
+use Rattle.hfs_source.specs.declared.asking.Counted.{Counted}
 use Rattle.hfs_source.specs.declared.fetching.SparseFault.{SparseFault}
 use Rattle.hfs_source.specs.declared.fetching.SparseFault.TheVariants as sparse
 use Rattle.hfs_source.specs.declared.ranges.ByteRange.{ByteRange}
@@ -55,6 +57,10 @@ IsUnfound path Holds HasFailed why = (fault : HoldFault) × IsUnheld Holds HasFa
 abbrev pub IsUnfoundPart : {F : Type 0} → PartBlocks F → Fault → Type 0
 IsUnfoundPart part why = (refusal : MountFault) × (why ≡ Refused refusal) × OfEach (parts_of part.blocks) (HasNoDirectory (Some refusal))
 
+-- the same of what was asked for of a file
+abbrev pub IsUnfoundOf : {F : Type 0} → Counted → Option ℕ → PartBlocks F → Fault → Type 0
+IsUnfoundOf counted volume part why = AreSeenOf counted volume part.blocks × IsUnfoundPart part why
+
 -- a read of these blocks failed, of bytes that each part has
 abbrev pub HasFailedIn : {F : Type 0} → PartBlocks F → Type 0
 HasFailedIn source =
@@ -68,7 +74,7 @@ pub record IsUnloaded (F : Type 0) (words : RescueWords) (why : Fault) : Type 0 
   pub opened : PartBlocks F
   pub placed : AreBlocksAt range opened
   pub left : PartBlocks F
-  pub narrows : OfEach (parts_of left.blocks) (parts_of opened.blocks)
+  pub same : IsSameRange images_of opened.blocks.bytes left.blocks.bytes
   pub told : IsUnfound words.image (parts_of left.blocks) (HasFailedIn opened) why
 
 -- what is asked for was not opened, or nothing is found of it

@@ -4,16 +4,17 @@ ghost use Rattle.std.specs.Prelude.{◌≡◌, ◌≤◌, IfErr, IfOk, Some};
 ghost use Rattle.hfs_commands.specs.Checks.{HasCheckLines, IsCheckFault};
 ghost use Rattle.hfs_remains_forks.specs.Finds.{IsFoundIn};
 ghost use Rattle.hfs_image.specs.Failing.{SomeReadFails};
+ghost use Rattle.hfs_image.specs.Kept.{IsSameRange, range_failures, range_images};
 ghost use Rattle.hfs_image.specs.Known.{OfKnown};
 ghost use Rattle.hfs_source.specs.Images.{HasLength, OfEach};
 ghost use Rattle.hfs_source.specs.Seen.{EachKnown};
 ghost use Rattle.hfs_word_rescue.specs.Faults.{IsUnheld};
 
-use crate::looking::{fault_of, rescued_image};
+use crate::looking::{RangeBlocks, fault_of, look_range, rescued_image};
 use hfs_check::MountFault;
 use hfs_commands::CheckAnswer;
-use hfs_remains_forks::{Finds, Unlooked, look_and_find};
-use hfs_source::{PlacedBlocks, SeenBlocks};
+use hfs_remains_forks::{Finds, Unlooked};
+use hfs_source::{PlacedBlocks, PlacedBytes, SeenBlocks};
 use std::alloc::Global;
 
 /// Why nothing is found of an image.
@@ -52,24 +53,26 @@ pub struct Unfound<S: PlacedBlocks> {
     pub source: SeenBlocks<S>,
 }
 
-impl<S: PlacedBlocks + Drop> RescuedImage<S> {
-    /// Checks an image, and finds what there is of it, in the blocks that are needed for that. Faults, with the source handed
-    /// back, of which they hold: no directory is found in it; a read failed, of bytes that every image consistent with those
-    /// read has; memory was refused.
+impl<S: PlacedBytes + Drop> RescuedImage<RangeBlocks<S>> {
+    /// Checks an image that is a range of a file, and finds what there is of it, in the blocks that are needed for that. Faults,
+    /// with the range handed back, of which they hold: no directory is found in it; a read failed, of bytes that every image
+    /// consistent with those read has; memory was refused.
     pub fn open(
         alloc: Global,
-        source: SeenBlocks<S>,
+        source: SeenBlocks<RangeBlocks<S>>,
         line: Option<String>,
-    ) -> Result<RescuedImage<S>, Unfound<S>>
+    ) -> Result<RescuedImage<RangeBlocks<S>>, Unfound<RangeBlocks<S>>>
         ensures line { IfOk result (λ image. image.line ≡ line) }
-        ensures narrows { IfOk result (λ image. OfEach (S.Holds image.source.blocks)
-            (S.Holds source.blocks)) }
-        ensures none { IfErr result (λ back. IsUnheld (S.Holds back.source.blocks)
-            (SomeReadFails (S.Holds source.blocks) (S.Fails source.blocks)) back.fault) }
-        ensures back { IfErr result (λ back. OfEach (S.Holds back.source.blocks)
-            (S.Holds source.blocks)) }
+        ensures same { IfOk result (λ image.
+            IsSameRange S.Holds source.blocks.bytes image.source.blocks.bytes) }
+        ensures none { IfErr result (λ back. IsUnheld
+            (range_images S.Holds back.source.blocks.bytes)
+            (SomeReadFails (range_images S.Holds source.blocks.bytes)
+            (range_failures S.Fails source.blocks.bytes)) back.fault) }
+        ensures back { IfErr result (λ back.
+            IsSameRange S.Holds source.blocks.bytes back.source.blocks.bytes) }
     {
-        match look_and_find(alloc, source) {
+        match look_range(alloc, source) {
             Ok(image) => rescued_image(alloc, image, line),
             Err(Unlooked { fault, source }) => {
                 let fault = fault_of(fault);
@@ -77,7 +80,9 @@ impl<S: PlacedBlocks + Drop> RescuedImage<S> {
             }
         }
     }
+}
 
+impl<S: PlacedBlocks + Drop> RescuedImage<S> {
     /// What it was read from.
     pub(crate) fn into_source(self) -> SeenBlocks<S>
         ensures { result ≡ self.source }

@@ -2,26 +2,28 @@
 ghost use Rattle.std.specs.Prelude.{◌≡◌, IfErr, IfOk, string_bytes};
 ghost use Rattle.std.specs.Option.{option_map};
 ghost use Rattle.hfs_commands.specs.Faults.{IsUnopened};
+ghost use Rattle.hfs_commands.specs.OpenedFiles.{images_of};
 ghost use Rattle.hfs_commands.specs.SeenFiles.{parts_of};
 ghost use Rattle.hfs_commands.specs.Unopened.{HasNoPart, TellsWhy, WasNotRead};
 ghost use Rattle.hfs_image.specs.Failing.{SomeReadFails};
-ghost use Rattle.hfs_source.specs.Images.{OfEach};
+ghost use Rattle.hfs_image.specs.Kept.{IsSameRange, range_failures, range_images};
 ghost use Rattle.hfs_source.specs.declared.asking.Counted.TheVariants.{Ranges};
 ghost use Rattle.hfs_word_take.specs.Opening.{AreBlocksAt, IsLineOf, TellsPart, TellsPartIn, TellsVolume};
-ghost use Rattle.hfs_word_rescue.specs.Faults.{HasFailedIn, IsUnfound, IsUnfoundPart, IsUnread, told_fault};
+ghost use Rattle.hfs_word_rescue.specs.Faults.{HasFailedIn, IsUnfound, IsUnfoundOf, IsUnread, told_fault};
 
 use crate::image::{HoldFault, RescuedImage, Unfound};
+use crate::looking::RangeBlocks;
 use crate::words::RescueWords;
 use hfs_check::MountFault;
 use hfs_commands::{Counted, Fault, LeftFile, OpenedFile, PartBlocks, UnopenedFile, part_blocks};
-use hfs_source::{BlocksOf, ByteRange, PlacedBlocks, RangeBytes, SeenBlocks};
+use hfs_source::{ByteRange, PlacedBlocks, PlacedBytes, SeenBlocks};
 use hfs_word_take::{FoundPart, find_part};
 use std::alloc::Global;
 use std::io::{Read, Seek};
 use std::rt::Files;
 
 /// The blocks of a part of a file.
-pub type Part<F> = BlocksOf<RangeBytes<OpenedFile<F>>>;
+pub type Part<F> = RangeBlocks<OpenedFile<F>>;
 
 /// What is asked for and, if it lies in a disk copy, whether that one's sum is right.
 #[derive(Drop)]
@@ -49,22 +51,24 @@ struct Unloaded<'a, S: PlacedBlocks> {
     source: SeenBlocks<S>,
 }
 
-/// What is found in the blocks that are asked for. A fault, with the source handed back, holds for every image consistent with
-/// the bytes read: if there is no directory, it is the fault of the check; `CannotRead` only if there is none of either, or a
-/// read failed.
-fn load_part<'a, S: PlacedBlocks + Drop>(
+/// What is found in the blocks that are asked for. A fault, with the same blocks handed back, holds for every image consistent
+/// with the bytes read: if there is no directory, it is the fault of the check; `CannotRead` only if there is none of either, or
+/// a read failed.
+fn load_part<'a, S: PlacedBytes + Drop>(
     alloc: Global,
-    blocks: SeenBlocks<S>,
+    blocks: SeenBlocks<RangeBlocks<S>>,
     line: Option<String>,
     words: &RescueWords<'a>,
-) -> Result<RescuedImage<S>, Unloaded<'a, S>>
+) -> Result<RescuedImage<RangeBlocks<S>>, Unloaded<'a, RangeBlocks<S>>>
     ensures line { IfOk result (λ image. image.line ≡ line) }
-    ensures narrows { IfOk result (λ image. OfEach (S.Holds image.source.blocks)
-        (S.Holds blocks.blocks)) }
-    ensures told { IfErr result (λ back. IsUnfound words.now.image (S.Holds back.source.blocks)
-        (SomeReadFails (S.Holds blocks.blocks) (S.Fails blocks.blocks)) back.fault) }
-    ensures back { IfErr result (λ back. OfEach (S.Holds back.source.blocks)
-        (S.Holds blocks.blocks)) }
+    ensures same { IfOk result (λ image.
+        IsSameRange S.Holds blocks.blocks.bytes image.source.blocks.bytes) }
+    ensures told { IfErr result (λ back. IsUnfound words.now.image
+        (range_images S.Holds back.source.blocks.bytes)
+        (SomeReadFails (range_images S.Holds blocks.blocks.bytes)
+        (range_failures S.Fails blocks.blocks.bytes)) back.fault) }
+    ensures back { IfErr result (λ back.
+        IsSameRange S.Holds blocks.blocks.bytes back.source.blocks.bytes) }
 {
     match RescuedImage::open(alloc, blocks, line) {
         Ok(image) => Ok(image),
@@ -95,8 +99,9 @@ fn find_range<'a, R: Files + AllocGlobal>(
 ) -> Result<FoundRange<R::File>, UnopenedFile<'a, R::File>>
     ensures line { IfOk result (λ found. IsLineOf words.now.volume found.range
         (option_map string_bytes found.line)) }
-    ensures found { IfOk result (λ found. TellsPart found.source.blocks.bytes.bytes Ranges
-        words.now.volume found.range (option_map string_bytes found.line) found.sum) }
+    ensures found { IfOk result (λ found. TellsPart
+        (record { source = found.source.blocks.bytes.bytes; range = found.range }) Ranges
+        words.now.volume (option_map string_bytes found.line) found.sum) }
     ensures part { IfOk result (λ found. AreBlocksAt found.range found.source) }
     ensures told { IfErr result (TellsWhy words.now.image (HasNoPart Ranges words.now.volume)
         WasNotRead) }
@@ -131,8 +136,9 @@ fn load_range<'a, F: Read + Seek + Drop>(
     words: &RescueWords<'a>,
 ) -> Result<LoadedImage<Part<F>>, Unloaded<'a, Part<F>>>
     requires line { IsLineOf words.now.volume found.range (option_map string_bytes found.line) }
-    requires found { TellsPart found.source.blocks.bytes.bytes Ranges words.now.volume
-        found.range (option_map string_bytes found.line) found.sum }
+    requires found { TellsPart
+        (record { source = found.source.blocks.bytes.bytes; range = found.range }) Ranges
+        words.now.volume (option_map string_bytes found.line) found.sum }
     requires part { AreBlocksAt found.range found.source }
     ensures line { IfOk result (λ loaded. TellsVolume words.now.volume loaded.image.len
         (option_map string_bytes loaded.image.line)) }
@@ -140,8 +146,8 @@ fn load_range<'a, F: Read + Seek + Drop>(
         words.now.volume loaded.image.len (option_map string_bytes loaded.image.line) loaded.sum) }
     ensures told { IfErr result (λ back. IsUnfound words.now.image (parts_of back.source.blocks)
         (HasFailedIn found.source) back.fault) }
-    ensures back { IfErr result (λ back. OfEach (parts_of back.source.blocks)
-        (parts_of found.source.blocks)) }
+    ensures back { IfErr result (λ back.
+        IsSameRange images_of found.source.blocks.bytes back.source.blocks.bytes) }
 {
     let FoundRange {
         source,
@@ -173,7 +179,7 @@ pub(crate) fn load_image<'a, R: Files + AllocGlobal>(
     ensures found { IfOk result (λ loaded. TellsPartIn loaded.image.source.blocks Ranges
         words.now.volume loaded.image.len (option_map string_bytes loaded.image.line) loaded.sum) }
     ensures told { IfErr result (TellsWhy words.now.image (HasNoPart Ranges words.now.volume)
-        IsUnfoundPart) }
+        (IsUnfoundOf Ranges words.now.volume)) }
     ensures fault { IfErr result (λ back. IsUnread R.File words.now back.fault) }
 {
     let found = find_range(rt, words)?;

@@ -11,8 +11,9 @@ use Rattle.hfs_commands.specs.declared.fault.Fault.TheVariants.{CannotRead, NoMe
 use Rattle.hfs_commands.specs.declared.opened_file.OpenedFile.{OpenedFile}
 use Rattle.hfs_commands.specs.declared.unopened.LeftFile.TheVariants.{Part}
 use Rattle.hfs_commands.specs.Faults.{IsUnopened, KeepsRefusal}
-use Rattle.hfs_commands.specs.SeenFiles.{PartBlocks, parts_of}
-use Rattle.hfs_commands.specs.Unopened.{IsReadFault, IsRefusedPart, TellsWhy}
+use Rattle.hfs_commands.specs.SeenFiles.{AreSeenOf, PartBlocks, parts_of}
+use Rattle.hfs_commands.specs.Unopened.{IsReadFault, IsRefusedOf, TellsWhy}
+use Rattle.hfs_source.specs.declared.asking.Counted.{Counted}
 use Rattle.hfs_image.specs.Seen.{IsRefusedBy}
 use Rattle.hfs_source.specs.Images.{OfEach}
 use Rattle.hfs_image.specs.declared.opening.NeededFault.{NeededFault}
@@ -45,16 +46,16 @@ of_needed words needed.Memory found told = unstored words found told
 of_needed words (needed.Refused why) found told = inr (why, told)
 
 -- what is told of blocks that were opened and aren't taken
-pub untaken_part : {F : Type 0} (path : Bor (List ℕ)) (Tells : OpenedFile F → Fault → Type 0) (Held : List ℕ → Type 0) (Fails : ℕ → ℕ → Type 0)
-    (part : PartBlocks F) (found : Fault) → IsUntaken path Held Fails (parts_of part.blocks) found
-    → TellsWhy path Tells IsRefusedPart (record { fault = found; left = Part part })
-untaken_part path Tells Held Fails part found is = by is.why is.told is.refused
+pub untaken_part : {F : Type 0} (path : Bor (List ℕ)) (Tells : OpenedFile F → Fault → Type 0) (counted : Counted) (volume : Option ℕ) (Held : List ℕ → Type 0)
+    (Fails : ℕ → ℕ → Type 0) (part : PartBlocks F) (found : Fault) → IsUntaken path Held Fails (parts_of part.blocks) found → AreSeenOf counted volume part.blocks
+    → TellsWhy path Tells (IsRefusedOf counted volume) (record { fault = found; left = Part part })
+untaken_part path Tells counted volume Held Fails part found is seen = by is.why is.told is.refused
   where
     by : (why : NeededFault) → found ≡ needed_fault path why → OfEach (parts_of part.blocks) (IsRefusedBy why)
-        → TellsWhy path Tells IsRefusedPart (record { fault = found; left = Part part })
+        → TellsWhy path Tells (IsRefusedOf counted volume) (record { fault = found; left = Part part })
     by needed.ReadFailed told refused = inl (inl told)
     by needed.Memory told refused = inl (inr told)
-    by (needed.Refused why) told refused = inr (why, told, λ image holds. refused image holds why refl)
+    by (needed.Refused why) told refused = inr (seen, (why, told, λ image holds. refused image holds why refl))
 
 pub unopened : (path : Bor (List ℕ)) (volume : Option ℕ) (found : Fault) → IsReadFault path found → IsUnopened path volume found
 unopened path volume found (inl read) = inl read

@@ -1,18 +1,18 @@
 -- The line of what was asked for.
-use Rattle.std.proofs.Common.{◌≡◌, ◌≢◌, ◌∙◌, ℕ, ◌+◌, ◌≤◌, Bool, List, [], length, take, drop, Option, None, Some, refl, ap, sym, subst, inl, inr, arith, length-take, length-drop}
-use Rattle.std.specs.Prelude.{⊤}
+use Rattle.std.proofs.Common.{◌≡◌, ◌∙◌, ℕ, ◌+◌, ◌≤◌, Bool, List, [], length, take, drop, Option, None, Some, refl, ap, sym, subst, inl, inr, arith, length-take, length-drop}
+use Rattle.std.specs.Prelude.{IfSome}
 use Rattle.std.proofs.lemmas.Option.{none-some}
 use Rattle.hfs_check.specs.declared.mount_fault.MountFault.TheVariants.{Short}
 use Rattle.hfs_check.specs.Faults.{fault_of, length_fault}
-use Rattle.hfs_commands.specs.OpenedFiles.{held_bytes, images_of, opened_layout}
-use Rattle.hfs_commands.specs.Parts.{IsAskedPart, IsAskedWhole, IsRangeAt, asked_at}
+use Rattle.hfs_commands.specs.OpenedFiles.{IsLaidOut, images_of, opened_layout}
+use Rattle.hfs_commands.specs.Parts.{IsAskedPart, IsRangeAt, IsWholeAt, asked_at}
 use Rattle.hfs_commands.specs.declared.opened_file.OpenedFile.{OpenedFile}
 use Rattle.hfs_commands.specs.declared.volume_files.FilePart.{FilePart}
 use Rattle.hfs_source.specs.Asking.{IsAnswerTo, asked_in}
 use Rattle.hfs_source.specs.declared.asking.NumberedRange.{NumberedRange}
 use Rattle.hfs_source.specs.declared.ranges.ByteRange.{ByteRange}
 use Rattle.hfs_source.specs.declared.ranges.Layout.{Layout}
-use Rattle.hfs_commands.specs.SeenFiles.{IsPartOf, parts_of}
+use Rattle.hfs_commands.specs.SeenFiles.{AreBlocksOf, AreSeenOf, IsPartOf, parts_of}
 use Rattle.hfs_source.specs.declared.asking.Counted.{Counted}
 use Rattle.hfs_source.specs.declared.blocks.BlocksOf.{BlocksOf}
 use Rattle.hfs_source.specs.declared.range.RangeBytes.{RangeBytes}
@@ -20,70 +20,75 @@ use Rattle.hfs_source.specs.declared.window.Window.{Window}
 use Rattle.hfs_source.specs.Ranges.{bytes_in}
 use Rattle.hfs_source.specs.Sums.{sum_told}
 use Rattle.hfs_source.specs.Images.{HasLength, IsRangeOf, OfEach}
-use Rattle.hfs_word_take.specs.Opening.{HasLengthIfSound, IsAskedOf, IsLineAt, IsLineOf, IsRangeIn, IsSumAt, IsSumIn, IsToldPart, TellsPart, TellsPartIn}
+use Rattle.hfs_word_take.specs.Opening.{HasLengthIfSound, IsLineAt, IsLineOf, IsRangeIn, IsSumAt, IsSumIn, IsToldPart, TellsPart, TellsPartIn}
 
-at-range : (AreOthers : ℕ → Type 0) (Names : List ℕ → Type 0) (range : ByteRange) (place : Option NumberedRange) (line : Option (List ℕ)) (sum : Option Bool) → IsRangeAt place range
-    → IsToldPart AreOthers Names place line sum → IsLineAt range place line
-at-range AreOthers Names range None line sum at told = told.0
-at-range AreOthers Names range (Some place) line sum at told = (told.2.name, sum, told.2.others, at, told.1 ∙ ap Some told.2.line_is)
+at-range : {F : Type 0} (file : OpenedFile F) (range : ByteRange) (place : Option NumberedRange) (line : Option (List ℕ)) (sum : Option Bool) → IsRangeAt place range
+    → IsToldPart file place line sum → IsLineAt range place line
+at-range file range None line sum at told = told.0
+at-range file range (Some place) line sum at told = (told.2.name, sum, told.2.others, at, told.1 ∙ ap Some told.2.line_is)
 
-pub line_of_part : (AreOthers : ℕ → Type 0) (Names : List ℕ → Type 0) (volume : Option ℕ) (range found : ByteRange) (place : Option NumberedRange) (line : Option (List ℕ)) (sum : Option Bool)
-    → IsAnswerTo volume (asked_at place) → IsRangeAt place range → found ≡ range → IsToldPart AreOthers Names place line sum → IsLineOf volume found line
-line_of_part AreOthers Names volume range found place line sum answer at same told =
-    (place, answer, at-range AreOthers Names found place line sum (subst (IsRangeAt place) (sym same) at) told)
+pub line_of_part : {F : Type 0} (file : OpenedFile F) (volume : Option ℕ) (range : ByteRange) (place : Option NumberedRange) (line : Option (List ℕ)) (sum : Option Bool)
+    → IsAnswerTo volume (asked_at place) → IsRangeAt place range → IsToldPart file place line sum → IsLineOf volume range line
+line_of_part file volume range place line sum answer at told = (place, answer, at-range file range place line sum at told)
 
--- ---- what is told of its sum
+-- ---- what was asked for is asked for still when its line was told
 
-any-others : (AreOthers : ℕ → Type 0) (Names : List ℕ → Type 0) (place : Option NumberedRange) (line : Option (List ℕ)) (sum : Option Bool)
-    → IsToldPart AreOthers Names place line sum → IsToldPart (λ others. ⊤) Names place line sum
-any-others AreOthers Names None line sum told = told
-any-others AreOthers Names (Some place) line sum told = (
-  told.0,
-  told.1,
-  record {
-    name = told.2.name;
-    name_is = told.2.name_is;
-    others = told.2.others;
-    others_is = tt;
-    line_is = told.2.line_is;
-  },
-)
+some-so : {A : Type 0} (found : Option A) (Fact : Type 0) → Fact → IfSome found (λ _. Fact)
+some-so None Fact fact = tt
+some-so (Some it) Fact fact = fact
 
--- by the number 0 the whole file is asked for
-whole-asked : (layout : Layout) (counted : Counted) (number : ℕ) (bytes : List ℕ) (place : Option NumberedRange) → number ≡ 0 → place ≡ None
-    → asked_at place ≡ asked_in layout counted (Some number) bytes
-unfolding asked_in
-whole-asked layout counted number bytes place zero none =
-    subst (λ (n : ℕ). asked_at place ≡ asked_in layout counted (Some n) bytes) (sym zero) (ap asked_at none)
+-- the layout of a file is known where a place in it is asked for
+pub laid_at : {F : Type 0} (counted : Counted) (volume : Option ℕ) (part : FilePart F) → IsAskedPart counted volume part
+    → IfSome part.place (λ _. IsLaidOut part.bytes.source)
+laid_at counted volume part (inl alone) =
+    subst (λ (place : Option NumberedRange). IfSome place (λ _. IsLaidOut part.bytes.source)) (sym alone.1.0) tt
+laid_at counted volume part (inr named) = some-so part.place (IsLaidOut part.bytes.source) named.1.0
 
-taken-whole : {F : Type 0} (layout : Layout) (counted : Counted) (volume : Option ℕ) (part : FilePart F) (found : Window (OpenedFile F)) → IsAskedWhole volume (held_bytes part.bytes.source)
-    → part.place ≡ None → found ≡ part.bytes → IsAskedOf layout counted volume found.source part.place
-taken-whole {F = F} layout counted None part found held none same =
-    inr (refl, none, subst (λ (bytes : Window (OpenedFile F)). held_bytes bytes.source ≢ None) (sym same) held)
-taken-whole {F = F} layout counted (Some number) part found zero none same = inl (λ bytes h. whole-asked layout counted number bytes part.place zero none)
+asked-still : {F : Type 0} (counted : Counted) (volume : Option ℕ) (old new : Window (OpenedFile F)) (place : Option NumberedRange)
+    → IsAskedPart counted volume (record { bytes = old; place = place }) → opened_layout new.source ≡ opened_layout old.source
+    → IfSome place (λ _. IsLaidOut new.source) → OfEach (images_of new.source) (images_of old.source) → (place ≡ None → new ≡ old)
+    → IsAskedPart counted volume (record { bytes = new; place = place })
+asked-still {F = F} counted volume old new None asked layout laid held whole =
+    subst (λ (bytes : Window (OpenedFile F)). IsAskedPart counted volume (record { bytes = bytes; place = None })) (sym (whole refl)) asked
+asked-still counted volume old new (Some place) (inl alone) layout laid held whole = absurd (none-some place (sym alone.1.0))
+asked-still counted volume old new (Some place) (inr named) layout laid held whole =
+    inr (
+      named.0,
+      laid,
+      λ bytes h. subst (λ (l : Layout). asked_at (Some place) ≡ asked_in l counted volume bytes) (sym layout) (named.1.1 bytes (held bytes h)),
+    )
 
--- what was asked for of a file is asked for when its line was told
-asked-still : {F : Type 0} (counted : Counted) (volume : Option ℕ) (part : FilePart F) (found : Window (OpenedFile F)) → IsAskedPart counted volume part
+all-still : {F : Type 0} (old new : Window (OpenedFile F)) (place : Option NumberedRange) → IsWholeAt (images_of old.source) place old.range
+    → (place ≡ None → new ≡ old) → IsWholeAt (images_of new.source) place new.range
+all-still {F = F} old new None all whole =
+    subst (λ (bytes : Window (OpenedFile F)). IsWholeAt (images_of bytes.source) None bytes.range) (sym (whole refl)) all
+all-still old new (Some place) all whole = tt
+
+pub told_of_part : {F : Type 0} (counted : Counted) (volume : Option ℕ) (part : FilePart F) (found : Window (OpenedFile F)) (line : Option (List ℕ)) (sum : Option Bool)
+    → IsAnswerTo volume (asked_at part.place) → IsAskedPart counted volume part → IsWholeAt (images_of part.bytes.source) part.place part.bytes.range
+    → IsRangeAt part.place found.range → opened_layout found.source ≡ opened_layout part.bytes.source → IfSome part.place (λ _. IsLaidOut found.source)
     → OfEach (images_of found.source) (images_of part.bytes.source) → (part.place ≡ None → found ≡ part.bytes)
-    → IsAskedOf (opened_layout part.bytes.source) counted volume found.source part.place
-asked-still counted volume part found (inl alone) held whole =
-    taken-whole (opened_layout part.bytes.source) counted volume part found alone.0 alone.1.0 (whole alone.1.0)
-asked-still counted volume part found (inr named) held whole = inl (λ bytes h. named.1.1 bytes (held bytes h))
-
-pub told_of_part : {F : Type 0} (AreOthers : ℕ → Type 0) (counted : Counted) (volume : Option ℕ) (part : FilePart F) (found : Window (OpenedFile F))
-    (line : Option (List ℕ)) (sum : Option Bool) → IsAnswerTo volume (asked_at part.place) → IsAskedPart counted volume part
-    → IsRangeAt part.place part.bytes.range → found.range ≡ part.bytes.range → OfEach (images_of found.source) (images_of part.bytes.source)
-    → (part.place ≡ None → found ≡ part.bytes) → IsToldPart AreOthers (images_of found.source) part.place line sum
-    → IsSumAt (images_of found.source) part.place sum → TellsPart found.source counted volume found.range line sum
-told_of_part AreOthers counted volume part found line sum answer asked at same held whole told is = record {
+    → IsToldPart found.source part.place line sum → IsSumAt (images_of found.source) part.place sum → TellsPart found counted volume line sum
+told_of_part counted volume part found line sum answer asked all at layout laid held whole told is = record {
   place = part.place;
   answers = answer;
-  layout = opened_layout part.bytes.source;
-  asked = asked-still counted volume part found asked held whole;
-  range_is = subst (IsRangeAt part.place) (sym same) at;
-  line_is = any-others AreOthers (images_of found.source) part.place line sum told;
+  asked = asked-still counted volume part.bytes found part.place asked layout laid held whole;
+  range_is = at;
+  all_is = all-still part.bytes found part.place all whole;
+  line_is = told;
   sum_is = is;
 }
+
+-- blocks of what was told are what was asked for
+pub seen_of_told : {F : Type 0} (part : Window (OpenedFile F)) (blocks : BlocksOf (RangeBytes (OpenedFile F))) (counted : Counted) (volume : Option ℕ)
+    (line : Option (List ℕ)) (sum : Option Bool) → TellsPart part counted volume line sum → AreBlocksOf part blocks → AreSeenOf counted volume blocks
+seen_of_told part blocks counted volume line sum told are = record {
+  part = part;
+  asked = (told.place, told.answers, told.asked, told.range_is, told.all_is);
+  blocks = are;
+}
+
+-- ---- what is told of its sum
 
 module _ (Holds Parts : List ℕ → Type 0) (range : ByteRange) (start count : ℕ) (within : OfEach Parts (IsRangeOf Holds start count))
     (at : IsPartOf Holds range start count) (len : ℕ) (lens : OfEach Parts (HasLength len)) (same : len ≡ range.len) where
@@ -109,19 +114,22 @@ module _ (Holds Parts : List ℕ → Type 0) (range : ByteRange) (start count : 
       is of.0 of.1 ∙ ap (sum_told place.found.container) (ap (λ (r : ByteRange). bytes_in r of.0) (sym at) ∙ sym (part-bytes part there))
 
 -- so what is told of the part that was opened is told of its blocks
-pub told_in_part : {F : Type 0} (file : OpenedFile F) (blocks : BlocksOf (RangeBytes (OpenedFile F))) (range : ByteRange) (start count : ℕ)
-    → OfEach (parts_of blocks) (IsRangeOf (images_of file) start count) → IsPartOf (images_of file) range start count
-    → (len : ℕ) → OfEach (parts_of blocks) (HasLength len) → len ≡ range.len
-    → (counted : Counted) (volume : Option ℕ) (line : Option (List ℕ)) (sum : Option Bool) → TellsPart file counted volume range line sum
+pub told_in_part : {F : Type 0} (part : Window (OpenedFile F)) (blocks : BlocksOf (RangeBytes (OpenedFile F))) → AreBlocksOf part blocks
+    → (len : ℕ) → OfEach (parts_of blocks) (HasLength len) → len ≡ part.range.len
+    → (counted : Counted) (volume : Option ℕ) (line : Option (List ℕ)) (sum : Option Bool) → TellsPart part counted volume line sum
     → TellsPartIn blocks counted volume len line sum
-told_in_part file blocks range start count within at len lens same counted volume line sum tells = record {
-  file = file;
-  range = range;
-  len_is = sym same;
-  told = tells;
-  parts_are = parts-in (images_of file) (parts_of blocks) range start count within at len lens same;
-  sum_is = in-part (images_of file) (parts_of blocks) range start count within at len lens same tells.place sum tells.range_is tells.sum_is;
-}
+told_in_part part blocks are len lens same counted volume line sum tells =
+    let start = blocks.bytes.start in
+    let count = blocks.bytes.len in
+    let within : OfEach (parts_of blocks) (IsRangeOf (images_of part.source) start count) = λ image of. (of.0, are.narrows of.0 of.1, of.2) in
+    record {
+      part = part;
+      len_is = sym same;
+      told = tells;
+      blocks_are = are;
+      parts_are = parts-in (images_of part.source) (parts_of blocks) part.range start count within are.range len lens same;
+      sum_is = in-part (images_of part.source) (parts_of blocks) part.range start count within are.range len lens same tells.place sum tells.range_is tells.sum_is;
+    }
 
 -- ---- how long what was opened is
 

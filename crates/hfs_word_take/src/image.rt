@@ -3,13 +3,14 @@ ghost use Rattle.std.proofs.Props.{props};
 ghost use Rattle.std.specs.Prelude.{◌≡◌, IfErr, IfOk};
 ghost use Rattle.hfs_check.specs.Report.{report_of};
 ghost use Rattle.hfs_image.specs.Failing.{SomeReadFails};
+ghost use Rattle.hfs_image.specs.Kept.{IsSameRange, range_failures, range_images};
 ghost use Rattle.hfs_image.specs.declared.opening.NeededFault.TheVariants.{ReadFailed};
 ghost use Rattle.hfs_image.specs.Seen.{HasNoFault, IsRefusedBy};
 ghost use Rattle.hfs_source.specs.Images.{HasLength, OfEach};
 
 use hfs_check::Report;
-use hfs_image::{SeenImage, Unopened};
-use hfs_source::{PlacedBlocks, SeenBlocks};
+use hfs_image::{SeenImage, Unopened, open_range_reported};
+use hfs_source::{BlocksOf, PlacedBlocks, PlacedBytes, RangeBytes, SeenBlocks};
 use std::alloc::Global;
 
 /// A sound image that was opened, and what is known of it before its forks are read.
@@ -28,28 +29,31 @@ pub struct TakenImage<S: PlacedBlocks> {
     ghost report_is: { OfEach (S.Holds opened) (λ image. report ≡ report_of image) } by { Prim.hlevel props },
 }
 
-impl<S: PlacedBlocks + Drop> TakenImage<S> {
-    /// Reads the needed blocks of an image, and makes all checks once. Errors, with the source handed back: a read failed, memory
-    /// was refused, or the image is refused.
+impl<S: PlacedBytes + Drop> TakenImage<BlocksOf<RangeBytes<S>>> {
+    /// Reads the needed blocks of an image that is a range of a file, and makes all checks once. Errors, with the source handed
+    /// back: a read failed, memory was refused, or the image is refused.
     pub fn open(
         alloc: Global,
-        source: SeenBlocks<S>,
-        beside: Option<SeenBlocks<S>>,
+        source: SeenBlocks<BlocksOf<RangeBytes<S>>>,
+        beside: Option<SeenBlocks<BlocksOf<RangeBytes<S>>>>,
         volume: Option<String>,
-    ) -> Result<TakenImage<S>, Unopened<S>>
-        ensures narrows { IfOk result (λ image. OfEach (S.Holds image.opened) (S.Holds source.blocks)) }
+    ) -> Result<TakenImage<BlocksOf<RangeBytes<S>>>, Unopened<BlocksOf<RangeBytes<S>>>>
+        ensures same { IfOk result (λ image. IsSameRange S.Holds source.blocks.bytes
+            image.opened.bytes) }
         ensures beside { IfOk result (λ image. image.beside ≡ beside) }
         ensures volume { IfOk result (λ image. image.volume ≡ volume) }
-        ensures sound { IfOk result (λ image. OfEach (S.Holds image.opened) HasNoFault) }
-        ensures refused { IfErr result (λ back. OfEach (S.Holds back.source.blocks)
-            (IsRefusedBy back.fault)) }
+        ensures sound { IfOk result (λ image. OfEach (range_images S.Holds image.opened.bytes)
+            HasNoFault) }
+        ensures refused { IfErr result (λ back. OfEach
+            (range_images S.Holds back.source.blocks.bytes) (IsRefusedBy back.fault)) }
         ensures failed { IfErr result (λ back. back.fault ≡ ReadFailed
-            → SomeReadFails (S.Holds source.blocks) (S.Fails source.blocks)) }
-        ensures back { IfErr result (λ back. OfEach (S.Holds back.source.blocks)
-            (S.Holds source.blocks)) }
+            → SomeReadFails (range_images S.Holds source.blocks.bytes)
+            (range_failures S.Fails source.blocks.bytes)) }
+        ensures back { IfErr result (λ back. IsSameRange S.Holds source.blocks.bytes
+            back.source.blocks.bytes) }
     {
         let len = source.blocks.len();
-        match SeenImage::open_reported(alloc, source) {
+        match open_range_reported(alloc, source) {
             Ok((opened, report)) => Ok(TakenImage {
                 opened,
                 beside,
@@ -60,7 +64,9 @@ impl<S: PlacedBlocks + Drop> TakenImage<S> {
             Err(back) => Err(back),
         }
     }
+}
 
+impl<S: PlacedBlocks + Drop> TakenImage<S> {
     /// The opened image alone.
     pub(crate) fn into_opened(self) -> SeenImage<S>
         ensures { result ≡ self.opened }

@@ -2,25 +2,28 @@
 ghost use Rattle.std.specs.Prelude.{◌≡◌, Err, IfErr, IfOk, IfSome, None, Ok, string_bytes};
 ghost use Rattle.std.specs.Option.{option_map};
 ghost use Rattle.hfs_commands.specs.Faults.{IsUnopened};
-ghost use Rattle.hfs_commands.specs.Unopened.{HasNoPart, IsReadFault, IsRefusedPart, TellsWhy, WasNotRead};
+ghost use Rattle.hfs_commands.specs.Unopened.{HasNoPart, IsReadFault, IsRefusedOf, TellsWhy, WasNotRead};
 ghost use Rattle.hfs_source.specs.declared.asking.Counted.TheVariants.{Volumes};
-ghost use Rattle.hfs_commands.specs.OpenedFiles.{AreHeldOthers, held_bytes, images_of, stored_bytes};
+ghost use Rattle.hfs_commands.specs.OpenedFiles.{IsLaidOut, held_bytes, images_of, opened_layout, stored_bytes};
+ghost use Rattle.hfs_commands.specs.Parts.{IsRangeAt};
 ghost use Rattle.hfs_commands.specs.SeenFiles.{parts_of};
+ghost use Rattle.hfs_image.specs.Kept.{IsSameRange, range_failures, range_images};
 ghost use Rattle.hfs_image.specs.Seen.{HasNoFault};
 ghost use Rattle.hfs_source.specs.Images.{OfEach};
 ghost use Rattle.hfs_word_take.specs.TakeFaults.{IsImageFault, IsUntaken, needed_fault};
-ghost use Rattle.hfs_word_take.specs.Opening.{AreBlocksAt, HasLengthIfSound, IsLineOf, IsSumAt, IsToldLine, IsToldPart, TellsPart, TellsPartIn, TellsVolume};
+ghost use Rattle.hfs_word_take.specs.Opening.{AreBlocksAt, HasLengthIfSound, IsLineOf, IsSumAt, IsToldPart, TellsPart, TellsPartIn, TellsVolume};
 
 use crate::facts::volume_text;
 use crate::image::TakenImage;
 use crate::words::TakeWords;
 use hfs_commands::{
-    Counted, Fault, FilePart, LeftFile, NumberedRange, OpenedFile, PartBlocks, StoredFile,
-    UnopenedFile, UserData, Window, open_asked, part_blocks,
+    Counted, DescribedRange, Fault, FilePart, LeftFile, NumberedRange, OpenedFile, PartBlocks,
+    RangeFacts, StoredFile, UnopenedFile, UserData, Window, describe_range, open_asked,
+    part_blocks,
 };
 use hfs_image::Unopened;
 use hfs_source::{
-    BlocksOf, ByteRange, PlacedBlocks, RangeBytes, SeenBlocks, SparseFault, sum_told, volume_name,
+    BlocksOf, ByteRange, PlacedBlocks, PlacedBytes, RangeBytes, SeenBlocks, SparseFault,
 };
 use std::alloc::Global;
 use std::fs::{File, Metadata, OpenFile};
@@ -54,24 +57,40 @@ fn told_read<'a, T>(read: Result<T, SparseFault>, path: &'a str) -> Result<T, Fa
     }
 }
 
-/// The line of a range of a file, and whether its sum is right, if it has one, which takes reading all its bytes. Each raw sector
-/// is looked at. Faults: a read failed, memory was refused.
-fn line_of<'a, F: Read + Seek>(
+/// A range inside a file, its line, and whether its sum is right, if it has one, which takes reading all its bytes. Each raw
+/// sector is looked at. Faults: a read failed, memory was refused.
+fn told_range<'a, F: Read + Seek + Drop>(
     alloc: Global,
-    file: &mut OpenedFile<F>,
+    file: OpenedFile<F>,
     place: &NumberedRange,
     path: &'a str,
-) -> Result<(String, Option<bool>), Fault<'a>>
-    ensures line { IfOk result (λ told. IsToldLine (AreHeldOthers file.old) (images_of file.new) place.now (string_bytes told.0) told.1) }
-    ensures sum { IfOk result (λ told. IsSumAt (images_of file.new) (Some place.now) told.1) }
-    ensures held { OfEach (images_of file.new) (images_of file.old) }
+) -> Result<FoundPart<F>, Fault<'a>>
+    requires { IsLaidOut file }
+    ensures range { IfOk result (λ told. told.bytes.range ≡ place.now.found.range) }
+    ensures line { IfOk result (λ told. IsToldPart told.bytes.source (Some place.now)
+        (option_map string_bytes told.line) told.sum) }
+    ensures sum { IfOk result (λ told. IsSumAt (images_of told.bytes.source) (Some place.now)
+        told.sum) }
+    ensures layout { IfOk result (λ told. opened_layout told.bytes.source ≡ opened_layout file) }
+    ensures laid_out { IfOk result (λ told. IsLaidOut told.bytes.source) }
+    ensures held { IfOk result (λ told. OfEach (images_of told.bytes.source) (images_of file)) }
     ensures fault { IfErr result (IsReadFault path.entry) }
 {
-    let others = told_read(file.others(), path)?;
-    let name = told_read(volume_name(file, place.found.range), path)?;
-    let sum = told_read(sum_told(file, &place.found), path)?;
+    let DescribedRange {
+        file: source,
+        facts,
+        others,
+    } = told_read(describe_range(file, &place.found), path)?;
+    let RangeFacts { name, sum } = facts;
     match volume_text(alloc, place.number, &place.found, &name, sum, others) {
-        Ok(line) => Ok((line, sum)),
+        Ok(line) => Ok(FoundPart {
+            bytes: Window {
+                source,
+                range: place.found.range,
+            },
+            line: Some(line),
+            sum,
+        }),
         Err(_) => Err(Fault::NoMemory),
     }
 }
@@ -82,29 +101,28 @@ fn told_part<'a, F: Read + Seek + Drop>(
     part: FilePart<F>,
     path: &'a str,
 ) -> Result<FoundPart<F>, Fault<'a>>
-    ensures range { IfOk result (λ found. found.bytes.range ≡ part.bytes.range) }
-    ensures line { IfOk result (λ found. IsToldPart (AreHeldOthers part.bytes.source) (images_of found.bytes.source) part.place
+    requires { IfSome part.place (λ _. IsLaidOut part.bytes.source) }
+    ensures range { IfOk result (λ found. IsRangeAt part.place found.bytes.range) }
+    ensures line { IfOk result (λ found. IsToldPart found.bytes.source part.place
         (option_map string_bytes found.line) found.sum) }
     ensures sum { IfOk result (λ found. IsSumAt (images_of found.bytes.source) part.place found.sum) }
+    ensures layout { IfOk result (λ found. opened_layout found.bytes.source
+        ≡ opened_layout part.bytes.source) }
+    ensures laid_out { IfOk result (λ found. IfSome part.place (λ _. IsLaidOut found.bytes.source)) }
     ensures held { IfOk result (λ found. OfEach (images_of found.bytes.source)
         (images_of part.bytes.source)) }
     ensures whole { part.place ≡ None → IfOk result (λ found. found.bytes ≡ part.bytes) }
     ensures fault { IfErr result (IsReadFault path.entry) }
 {
-    let FilePart { mut bytes, place } = part;
-    let Some(place) = place else {
-        return Ok(FoundPart {
+    let FilePart { bytes, place } = part;
+    match place {
+        None => Ok(FoundPart {
             bytes,
             line: None,
             sum: None,
-        });
-    };
-    let told = line_of(alloc, &mut bytes.source, &place, path)?;
-    Ok(FoundPart {
-        bytes,
-        line: Some(told.0),
-        sum: told.1,
-    })
+        }),
+        Some(place) => told_range(alloc, bytes.source, &place, path),
+    }
 }
 
 /// What is asked for of an image, given the number of a volume in it or none, as [`open_asked`] opens it, and its line. Faults,
@@ -118,8 +136,8 @@ pub fn find_part<'a, R: Files + AllocGlobal>(
 ) -> Result<FoundPart<R::File>, UnopenedFile<'a, R::File>>
     ensures line { IfOk result (λ part. IsLineOf volume part.bytes.range
         (option_map string_bytes part.line)) }
-    ensures part { IfOk result (λ part. TellsPart part.bytes.source counted volume
-        part.bytes.range (option_map string_bytes part.line) part.sum) }
+    ensures part { IfOk result (λ part. TellsPart part.bytes counted volume
+        (option_map string_bytes part.line) part.sum) }
     ensures told { IfErr result (TellsWhy path.entry (HasNoPart counted volume) WasNotRead) }
     ensures fault { IfErr result (λ back. IsUnopened path.entry volume back.fault) }
 {
@@ -236,8 +254,9 @@ fn find_blocks<'a, R: Files + AllocGlobal>(
 ) -> Result<FoundBlocks<R::File>, UnopenedFile<'a, R::File>>
     ensures line { IfOk result (λ found. IsLineOf words.now.volume found.range
         (option_map string_bytes found.line)) }
-    ensures found { IfOk result (λ found. TellsPart found.source.blocks.bytes.bytes Volumes
-        words.now.volume found.range (option_map string_bytes found.line) found.sum) }
+    ensures found { IfOk result (λ found. TellsPart
+        (record { source = found.source.blocks.bytes.bytes; range = found.range }) Volumes
+        words.now.volume (option_map string_bytes found.line) found.sum) }
     ensures part { IfOk result (λ found. AreBlocksAt found.range found.source) }
     ensures beside { IfOk result (λ found. IfSome found.beside (AreBlocksAt found.range)) }
     ensures told { IfErr result (TellsWhy words.now.image (HasNoPart Volumes words.now.volume)
@@ -285,27 +304,34 @@ fn of_unopened<'a, S: PlacedBlocks>(back: Unopened<S>, path: &'a str) -> Untaken
     }
 }
 
+/// The blocks of a range of a file, known by what is read of them.
+type RangeBlocks<S> = BlocksOf<RangeBytes<S>>;
+
 /// Opens what was found of an image, which has `len` bytes if it has no fault, and makes all checks. Faults, with what they hold
-/// of handed back: a read failed; the first of every image consistent with the bytes read; memory was refused.
-fn open_found<'a, S: PlacedBlocks + Drop>(
+/// of handed back, which is the same range: a read failed; the first of every image consistent with the bytes read; memory was
+/// refused.
+#[tactic(auto, using(hfs_image::proofs::KeptLemmas::range_narrows))]
+fn open_found<'a, S: PlacedBytes + Drop>(
     alloc: Global,
-    source: SeenBlocks<S>,
-    beside: Option<SeenBlocks<S>>,
+    source: SeenBlocks<RangeBlocks<S>>,
+    beside: Option<SeenBlocks<RangeBlocks<S>>>,
     line: Option<String>,
     len: u64,
     words: &TakeWords<'a>,
-) -> Result<TakenImage<S>, Untaken<'a, S>>
-    requires { OfEach (S.Holds source.blocks) (HasLengthIfSound len) }
+) -> Result<TakenImage<RangeBlocks<S>>, Untaken<'a, RangeBlocks<S>>>
+    requires { OfEach (range_images S.Holds source.blocks.bytes) (HasLengthIfSound len) }
     ensures len { IfOk result (λ image. image.len ≡ len) }
     ensures line { IfOk result (λ image. image.volume ≡ line) }
     ensures beside { IfOk result (λ image. image.beside ≡ beside) }
-    ensures sound { IfOk result (λ image. OfEach (S.Holds image.opened) HasNoFault) }
-    ensures narrows { IfOk result (λ image. OfEach (S.Holds image.opened)
-        (S.Holds source.blocks)) }
-    ensures told { IfErr result (λ back. IsUntaken words.now.image (S.Holds source.blocks)
-        (S.Fails source.blocks) (S.Holds back.source.blocks) back.fault) }
-    ensures back { IfErr result (λ back. OfEach (S.Holds back.source.blocks)
-        (S.Holds source.blocks)) }
+    ensures sound { IfOk result (λ image. OfEach (range_images S.Holds image.opened.bytes)
+        HasNoFault) }
+    ensures same { IfOk result (λ image. IsSameRange S.Holds source.blocks.bytes
+        image.opened.bytes) }
+    ensures told { IfErr result (λ back. IsUntaken words.now.image
+        (range_images S.Holds source.blocks.bytes) (range_failures S.Fails source.blocks.bytes)
+        (range_images S.Holds back.source.blocks.bytes) back.fault) }
+    ensures back { IfErr result (λ back. IsSameRange S.Holds source.blocks.bytes
+        back.source.blocks.bytes) }
 {
     match TakenImage::open(alloc, source, beside, line) {
         Ok(image) => {
@@ -336,7 +362,7 @@ pub(crate) struct OpenedTake<S: PlacedBlocks> {
 }
 
 /// The blocks of a part of a file, known by what is read of them.
-type PlacedPart<F> = BlocksOf<RangeBytes<OpenedFile<F>>>;
+type PlacedPart<F> = RangeBlocks<OpenedFile<F>>;
 
 /// Opens what is to be taken, twice if its digest is to be made at the same time, and makes all checks. Faults, the first that
 /// holds, with what was read: the image can't be read; `NoVolume`, `SeveralVolumes`; the image's own, which is `Short` if the
@@ -351,7 +377,7 @@ pub(crate) fn open_image<'a, R: Files + AllocGlobal>(
         words.now.volume opened.image.len (option_map string_bytes opened.image.volume) opened.sum) }
     ensures sound { IfOk result (λ opened. OfEach (parts_of opened.image.opened) HasNoFault) }
     ensures told { IfErr result (TellsWhy words.now.image (HasNoPart Volumes words.now.volume)
-        IsRefusedPart) }
+        (IsRefusedOf Volumes words.now.volume)) }
     ensures fault { IfErr result (λ back. IsImageFault words.now back.fault) }
 {
     let FoundBlocks {

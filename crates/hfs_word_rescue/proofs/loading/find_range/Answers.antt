@@ -9,5 +9,6 @@ pub returns-clause-found : goal.returns-clause-found
 returns-clause-found g c =
     let found = c.in_ok-bytes.field-0 in
     let own : c.part_blocks.result.blocks.bytes.bytes ≡ found.bytes.source = search rules in
-    subst (λ file. TellsPart file Ranges c.args.words.now.volume found.bytes.range (option_map (string_bytes {Z = Global}) found.line) found.sum)
+    subst
+    (λ file. TellsPart (record { source = file; range = found.bytes.range }) Ranges c.args.words.now.volume (option_map (string_bytes {Z = Global}) found.line) found.sum)
     (sym own) c.in_ok-bytes.ensures.part

@@ -3,8 +3,11 @@ use Rattle.std.proofs.Common.{◌≡◌, ◌≢◌, Global, Some, rules, string_
 use Rattle.std.specs.Option.{option_map}
 use Rattle.hfs_check.specs.declared.mount_fault.MountFault.TheVariants.{Short}
 use Rattle.hfs_commands.specs.OpenedFiles.{images_of}
-use Rattle.hfs_source.specs.declared.asking.Counted.TheVariants.{Ranges}
 use Rattle.hfs_commands.specs.SeenFiles.{parts_of}
+use Rattle.hfs_commands.proofs.SeenLemmas.{blocks_of_same}
+use Rattle.hfs_image.specs.Kept.{IsSameRange}
+use Rattle.hfs_image.proofs.KeptLemmas.{range_narrows}
+use Rattle.hfs_source.specs.declared.asking.Counted.TheVariants.{Ranges}
 use Rattle.hfs_source.specs.Images.{OfEach}
 use Rattle.hfs_word_rescue.specs.declared.image.HoldFault.TheVariants.{NoDirectory}
 use Rattle.hfs_word_rescue.specs.Faults.{HasNoDirectory}
@@ -17,13 +20,14 @@ pub returns-else-image-range-clause-found : goal.returns-else-image-range-clause
 returns-else-image-range-clause-found g c =
     let found = c.args.found in
     let image = c.in-Ok.image in
+    let volume = c.args.words.now.volume in
+    let part = record { source = found.source.blocks.bytes.bytes; range = found.range } in
     let same : image.len ≡ found.range.len = search rules in
     let told : image.line ≡ found.line = search rules in
-    subst (λ line. TellsPartIn image.source.blocks Ranges c.args.words.now.volume image.len (option_map (string_bytes {Z = Global}) line) found.sum)
+    let are = blocks_of_same part found.source.blocks image.source.blocks c.requires.part c.in-Ok.ensures.same in
+    subst (λ line. TellsPartIn image.source.blocks Ranges volume image.len (option_map (string_bytes {Z = Global}) line) found.sum)
     (sym told)
-    (told_in_part found.source.blocks.bytes.bytes image.source.blocks found.range found.source.blocks.bytes.start
-    found.source.blocks.bytes.len c.in-Ok.ensures.narrows c.requires.part image.len image.long same
-    Ranges c.args.words.now.volume (option_map (string_bytes {Z = Global}) found.line) found.sum c.requires.found)
+    (told_in_part part image.source.blocks are image.len image.long same Ranges volume (option_map (string_bytes {Z = Global}) found.line) found.sum c.requires.found)
 
 pub returns-then-image-range-clause-told : goal.returns-then-image-range-clause-told
 returns-then-image-range-clause-told g c =
@@ -32,6 +36,12 @@ returns-then-image-range-clause-told g c =
     let other : image.len ≢ found.range.len = search rules in
     let none : OfEach (parts_of image.source.blocks) (HasNoDirectory (Some Short)) =
     none_outside (images_of found.source.blocks.bytes.bytes) (parts_of image.source.blocks) found.range found.source.blocks.bytes.start
-    found.source.blocks.bytes.len c.in-Ok.ensures.narrows c.requires.part image.len image.long other image.finds image.finds_are (Some Short) in
+    found.source.blocks.bytes.len (range_narrows images_of found.source.blocks.bytes image.source.blocks.bytes c.in-Ok.ensures.same)
+    c.requires.part.range image.len image.long other image.finds image.finds_are (Some Short) in
     let own : c.out_of_range.result.source ≡ image.source = c.out_of_range.ensures.source in
     (NoDirectory (Some Short), subst (λ source. OfEach (parts_of source.blocks) (HasNoDirectory (Some Short))) (sym own) none, c.out_of_range.ensures.fault)
+
+pub returns-then-image-range-clause-back : goal.returns-then-image-range-clause-back
+returns-then-image-range-clause-back g c =
+    let own : c.out_of_range.result.source ≡ c.in-Ok.image.source = c.out_of_range.ensures.source in
+    subst (λ source. IsSameRange images_of c.args.found.source.blocks.bytes source.blocks.bytes) (sym own) c.in-Ok.ensures.same

@@ -2,19 +2,19 @@
 use Rattle.std.proofs.Common.{◌≡◌, Global, rules, string_bytes, subst, sym}
 use Rattle.std.specs.Option.{option_map}
 use Rattle.hfs_commands.specs.OpenedFiles.{images_of}
-use Rattle.hfs_commands.specs.SeenFiles.{parts_of}
 use Rattle.hfs_commands.specs.Unopened.{HasNoPart}
+use Rattle.hfs_commands.proofs.SeenLemmas.{blocks_of_same}
 use Rattle.hfs_source.specs.declared.asking.Counted.TheVariants.{Volumes}
 use Rattle.hfs_word_take.specs.Opening.{TellsPartIn}
 use Rattle.hfs_word_take.proofs.FaultLemmas.{of_needed, untaken_part}
-use Rattle.hfs_word_take.proofs.PartLines.{length_if_sound, told_in_part}
+use Rattle.hfs_word_take.proofs.PartLines.{length_if_sound, seen_of_told, told_in_part}
 use Rattle.hfs_word_take.proofs.opening.open_image.Goals as goal
 
 pub open_found-requires : goal.open_found-requires
 open_found-requires g c =
     let found = c.in_ok-source.field-0 in
     let part = found.source.blocks.bytes in
-    length_if_sound (images_of part.bytes) found.range part.start part.len c.in_ok-source.ensures.part
+    length_if_sound (images_of part.bytes) found.range part.start part.len c.in_ok-source.ensures.part.range
 
 pub returns-in-Err-clause-fault : goal.returns-in-Err-clause-fault
 returns-in-Err-clause-fault g c =
@@ -23,17 +23,24 @@ returns-in-Err-clause-fault g c =
 
 pub returns-in-Err-clause-told : goal.returns-in-Err-clause-told
 returns-in-Err-clause-told g c =
-    untaken_part c.args.words.now.image (HasNoPart Volumes c.args.words.now.volume) _ _ c.in-Err.field-0.source c.in-Err.field-0.fault
-    c.in-Err.ensures.told
+    let found = c.in_ok-source.field-0 in
+    let left = c.in-Err.field-0.source in
+    let volume = c.args.words.now.volume in
+    let part = record { source = found.source.blocks.bytes.bytes; range = found.range } in
+    let are = blocks_of_same part found.source.blocks left.blocks c.in_ok-source.ensures.part c.in-Err.ensures.back in
+    untaken_part c.args.words.now.image (HasNoPart Volumes volume) Volumes volume _ _ left c.in-Err.field-0.fault c.in-Err.ensures.told
+    (seen_of_told part left.blocks Volumes volume (option_map (string_bytes {Z = Global}) found.line) found.sum c.in_ok-source.ensures.found are)
 
 pub returns-in-Ok-clause-found : goal.returns-in-Ok-clause-found
 returns-in-Ok-clause-found g c =
     let found = c.in_ok-source.field-0 in
     let image = c.in-Ok.image in
+    let volume = c.args.words.now.volume in
+    let part = record { source = found.source.blocks.bytes.bytes; range = found.range } in
     let same : image.len ≡ found.range.len = search rules in
     let told : image.volume ≡ found.line = search rules in
-    subst (λ line. TellsPartIn image.opened Volumes c.args.words.now.volume image.len (option_map (string_bytes {Z = Global}) line) found.sum)
+    let are = blocks_of_same part found.source.blocks image.opened c.in_ok-source.ensures.part c.in-Ok.ensures.same in
+    subst (λ line. TellsPartIn image.opened Volumes volume image.len (option_map (string_bytes {Z = Global}) line) found.sum)
     (sym told)
-    (told_in_part found.source.blocks.bytes.bytes image.opened found.range found.source.blocks.bytes.start
-    found.source.blocks.bytes.len c.in-Ok.ensures.narrows c.in_ok-source.ensures.part image.len image.len_is same
-    Volumes c.args.words.now.volume (option_map (string_bytes {Z = Global}) found.line) found.sum c.in_ok-source.ensures.found)
+    (told_in_part part image.opened are image.len image.len_is same Volumes volume (option_map (string_bytes {Z = Global}) found.line) found.sum
+    c.in_ok-source.ensures.found)
