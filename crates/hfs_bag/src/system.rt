@@ -1,5 +1,5 @@
 //! What a shelf of files asks of the system.
-ghost use Rattle.std.specs.Prelude.{◌≡◌, ◌<◌, ◌≤◌, ◌∷◌, [], List, length, take, IfOk, MatchResult};
+ghost use Rattle.std.specs.Prelude.{◌≡◌, ◌≤◌, ◌∷◌, [], List, length, take, IfOk, MatchResult};
 ghost use Rattle.std.specs.IoError.{error_kind};
 ghost use Rattle.std.specs.Time.{system_time_nanos};
 ghost use Rattle.hfs_bag.specs.SystemSteps.{Does, SystemStep, made_folder, opened, wrote, timed, closed, moved, removed_folder, looked, listed, named, done, failed, makes_file};
@@ -65,9 +65,9 @@ pub trait FileSystem {
         ensures { Does result (listed folder.now) (did self.old) (did self.new) };
 
     /// Reads more names of the folder that was opened last, each ended by a zero byte, and returns how many bytes these are; none
-    /// at their end.
+    /// at their end. The system reads no name into less room than it wants, and 4,096 bytes are enough for any.
     fn read_names(&mut self, into: &mut [u8]) -> io::Result<usize>
-        requires { 0 < length into.old }
+        requires { 4096 ≤ length into.old }
         ensures within { IfOk result (λ count. count ≤ length into.new) }
         ensures read { MatchResult result
             (λ count. did self.new ≡ done (named (take count into.new)) ∷ did self.old)
