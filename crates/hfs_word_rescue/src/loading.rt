@@ -8,7 +8,7 @@ ghost use Rattle.hfs_commands.specs.Unopened.{HasNoPart, TellsWhy, WasNotRead};
 ghost use Rattle.hfs_image.specs.Failing.{SomeReadFails};
 ghost use Rattle.hfs_image.specs.Kept.{IsSameRange, range_failures, range_images};
 ghost use Rattle.hfs_source.specs.declared.asking.Counted.TheVariants.{Ranges};
-ghost use Rattle.hfs_word_take.specs.Opening.{AreBlocksAt, IsLineOf, TellsPart, TellsPartIn, TellsVolume};
+ghost use Rattle.hfs_word_take.specs.Opening.{AreBlocksAt, IsLineOf, TellsPart, TellsPartIn, TellsVolume, window_at};
 ghost use Rattle.hfs_word_rescue.specs.Faults.{HasFailedIn, IsUnfound, IsUnfoundOf, IsUnread, told_fault};
 
 use crate::image::{HoldFault, RescuedImage, Unfound};
@@ -100,7 +100,7 @@ fn find_range<'a, R: Files + AllocGlobal>(
     ensures line { IfOk result (λ found. IsLineOf words.now.volume found.range
         (option_map string_bytes found.line)) }
     ensures found { IfOk result (λ found. TellsPart
-        (record { source = found.source.blocks.bytes.bytes; range = found.range }) Ranges
+        (window_at found.range found.source) Ranges
         words.now.volume (option_map string_bytes found.line) found.sum) }
     ensures part { IfOk result (λ found. AreBlocksAt found.range found.source) }
     ensures told { IfErr result (TellsWhy words.now.image (HasNoPart Ranges words.now.volume)
@@ -137,7 +137,7 @@ fn load_range<'a, F: Read + Seek + Drop>(
 ) -> Result<LoadedImage<Part<F>>, Unloaded<'a, Part<F>>>
     requires line { IsLineOf words.now.volume found.range (option_map string_bytes found.line) }
     requires found { TellsPart
-        (record { source = found.source.blocks.bytes.bytes; range = found.range }) Ranges
+        (window_at found.range found.source) Ranges
         words.now.volume (option_map string_bytes found.line) found.sum }
     requires part { AreBlocksAt found.range found.source }
     ensures line { IfOk result (λ loaded. TellsVolume words.now.volume loaded.image.len

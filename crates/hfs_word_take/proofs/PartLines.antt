@@ -12,7 +12,7 @@ use Rattle.hfs_source.specs.Asking.{IsAnswerTo, asked_in}
 use Rattle.hfs_source.specs.declared.asking.NumberedRange.{NumberedRange}
 use Rattle.hfs_source.specs.declared.ranges.ByteRange.{ByteRange}
 use Rattle.hfs_source.specs.declared.ranges.Layout.{Layout}
-use Rattle.hfs_commands.specs.SeenFiles.{AreBlocksOf, AreSeenOf, IsPartOf, parts_of}
+use Rattle.hfs_commands.specs.SeenFiles.{AreBlocksOf, AreSeenOf, IsPartOf, PartBlocks, parts_of}
 use Rattle.hfs_source.specs.declared.asking.Counted.{Counted}
 use Rattle.hfs_source.specs.declared.blocks.BlocksOf.{BlocksOf}
 use Rattle.hfs_source.specs.declared.range.RangeBytes.{RangeBytes}
@@ -20,7 +20,7 @@ use Rattle.hfs_source.specs.declared.window.Window.{Window}
 use Rattle.hfs_source.specs.Ranges.{bytes_in}
 use Rattle.hfs_source.specs.Sums.{sum_told}
 use Rattle.hfs_source.specs.Images.{HasLength, IsRangeOf, OfEach}
-use Rattle.hfs_word_take.specs.Opening.{HasLengthIfSound, IsLineAt, IsLineOf, IsRangeIn, IsSumAt, IsSumIn, IsToldPart, TellsPart, TellsPartIn}
+use Rattle.hfs_word_take.specs.Opening.{AreBlocksBeside, HasLengthIfSound, HasOpenedPart, IsLineAt, IsLineOf, IsRangeIn, IsSumAt, IsSumIn, IsToldPart, TellsPart, TellsPartIn}
 
 at-range : {F : Type 0} (file : OpenedFile F) (range : ByteRange) (place : Option NumberedRange) (line : Option (List ℕ)) (sum : Option Bool) → IsRangeAt place range
     → IsToldPart file place line sum → IsLineAt range place line
@@ -54,8 +54,7 @@ asked-still counted volume old new (Some place) (inl alone) layout laid held who
 asked-still counted volume old new (Some place) (inr named) layout laid held whole =
     inr (
       named.0,
-      laid,
-      λ bytes h. subst (λ (l : Layout). asked_at (Some place) ≡ asked_in l counted volume bytes) (sym layout) (named.1.1 bytes (held bytes h)),
+      (laid, λ bytes h. subst (λ (l : Layout). asked_at (Some place) ≡ asked_in l counted volume bytes) (sym layout) (named.1.1 bytes (held bytes h))),
     )
 
 all-still : {F : Type 0} (old new : Window (OpenedFile F)) (place : Option NumberedRange) → IsWholeAt (images_of old.source) place old.range
@@ -104,17 +103,17 @@ module _ (Holds Parts : List ℕ → Type 0) (range : ByteRange) (start count : 
             empty ∙ ap (λ (n : ℕ). take n (drop range.start of.0)) zero-len
       ]
 
-  parts-in : OfEach Parts (IsRangeIn Holds range)
+  pub parts-in : OfEach Parts (IsRangeIn Holds range)
   parts-in part is = ((within part is).0, (within part is).1, part-bytes part is)
 
-  in-part : (place : Option NumberedRange) (sum : Option Bool) → IsRangeAt place range → IsSumAt Holds place sum → IsSumIn Parts place sum
+  pub in-part : (place : Option NumberedRange) (sum : Option Bool) → IsRangeAt place range → IsSumAt Holds place sum → IsSumIn Parts place sum
   in-part None sum at is = is
   in-part (Some place) sum at is = λ part there.
       let of = within part there in
       is of.0 of.1 ∙ ap (sum_told place.found.container) (ap (λ (r : ByteRange). bytes_in r of.0) (sym at) ∙ sym (part-bytes part there))
 
 -- so what is told of the part that was opened is told of its blocks
-pub told_in_part : {F : Type 0} (part : Window (OpenedFile F)) (blocks : BlocksOf (RangeBytes (OpenedFile F))) → AreBlocksOf part blocks
+abbrev pub told_in_part : {F : Type 0} (part : Window (OpenedFile F)) (blocks : BlocksOf (RangeBytes (OpenedFile F))) → AreBlocksOf part blocks
     → (len : ℕ) → OfEach (parts_of blocks) (HasLength len) → len ≡ part.range.len
     → (counted : Counted) (volume : Option ℕ) (line : Option (List ℕ)) (sum : Option Bool) → TellsPart part counted volume line sum
     → TellsPartIn blocks counted volume len line sum
@@ -130,6 +129,16 @@ told_in_part part blocks are len lens same counted volume line sum tells =
       parts_are = parts-in (images_of part.source) (parts_of blocks) part.range start count within are.range len lens same;
       sum_is = in-part (images_of part.source) (parts_of blocks) part.range start count within are.range len lens same tells.place sum tells.range_is tells.sum_is;
     }
+
+-- and what was opened a second time is that part again
+pub opened_part : {F : Type 0} (part : Window (OpenedFile F)) (blocks : BlocksOf (RangeBytes (OpenedFile F))) (beside : Option (PartBlocks F))
+    → AreBlocksOf part blocks → (len : ℕ) → OfEach (parts_of blocks) (HasLength len) → len ≡ part.range.len
+    → (counted : Counted) (volume : Option ℕ) (line : Option (List ℕ)) (sum : Option Bool) → TellsPart part counted volume line sum
+    → IfSome beside (AreBlocksBeside part) → HasOpenedPart blocks beside counted volume len line sum
+opened_part part blocks beside are len lens same counted volume line sum tells again = record {
+  told = told_in_part part blocks are len lens same counted volume line sum tells;
+  again = again;
+}
 
 -- ---- how long what was opened is
 

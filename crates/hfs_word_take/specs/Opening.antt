@@ -1,6 +1,6 @@
 -- What is known of what was opened.
-use Rattle.std.specs.Prelude.{◌≡◌, ℕ, Bool, List, Option, None, Some}
-use Rattle.hfs_commands.specs.OpenedFiles.{AreOthersOf, images_of}
+use Rattle.std.specs.Prelude.{◌≡◌, ℕ, Bool, List, IfSome, Option, None, Some}
+use Rattle.hfs_commands.specs.OpenedFiles.{AreOthersOf, images_of, opened_layout}
 use Rattle.hfs_commands.specs.Parts.{IsAskedPart, IsRangeAt, IsWholeAt, asked_at}
 use Rattle.hfs_commands.specs.SeenFiles.{AreBlocksOf, PartBlocks, parts_of}
 use Rattle.hfs_commands.specs.declared.opened_file.OpenedFile.{OpenedFile}
@@ -82,9 +82,22 @@ pub record TellsPartIn {F : Type 0} (blocks : BlocksOf (RangeBytes (OpenedFile F
   pub parts_are : OfEach (parts_of blocks) (IsRangeIn (images_of part.source) part.range)
   pub sum_is : IsSumIn (parts_of blocks) told.place sum
 
+-- a range of the file that these blocks are read from
+abbrev pub window_at : {F : Type 0} → ByteRange → PartBlocks F → Window (OpenedFile F)
+window_at range part = record { source = part.blocks.bytes.bytes; range = range }
+
 -- these blocks of a file are that range of it, or there are none, where no file that has the bytes which were read has all of the range
 abbrev pub AreBlocksAt : {F : Type 0} → ByteRange → PartBlocks F → Type 0
-AreBlocksAt range part = AreBlocksOf (record { source = part.blocks.bytes.bytes; range = range }) part.blocks
+AreBlocksAt range part = AreBlocksOf (window_at range part) part.blocks
+
+-- these blocks of a file are the same range of it as this part is of its own, where its bytes are laid out as those are
+abbrev pub AreBlocksBeside : {F : Type 0} → Window (OpenedFile F) → PartBlocks F → Type 0
+AreBlocksBeside part again = AreBlocksAt part.range again × (opened_layout again.blocks.bytes.bytes ≡ opened_layout part.source)
+
+-- so it does, and what was opened a second time is that range again
+pub record HasOpenedPart {F : Type 0} (blocks : BlocksOf (RangeBytes (OpenedFile F))) (beside : Option (PartBlocks F)) (counted : Counted) (volume : Option ℕ) (len : ℕ) (line : Option (List ℕ)) (sum : Option Bool) : Type 0 where
+  pub told : TellsPartIn blocks counted volume len line sum
+  pub again : IfSome beside (AreBlocksBeside told.part)
 
 -- the image has so many bytes if it has no fault
 abbrev pub HasLengthIfSound : ℕ → List ℕ → Type 0

@@ -11,14 +11,14 @@ ghost use Rattle.hfs_image.specs.Kept.{IsSameRange, range_failures, range_images
 ghost use Rattle.hfs_image.specs.Seen.{HasNoFault};
 ghost use Rattle.hfs_source.specs.Images.{OfEach};
 ghost use Rattle.hfs_word_take.specs.TakeFaults.{IsImageFault, IsUntaken, needed_fault};
-ghost use Rattle.hfs_word_take.specs.Opening.{AreBlocksAt, HasLengthIfSound, IsLineOf, IsSumAt, IsToldPart, TellsPart, TellsPartIn, TellsVolume};
+ghost use Rattle.hfs_word_take.specs.Opening.{AreBlocksAt, AreBlocksBeside, HasLengthIfSound, HasOpenedPart, IsLineOf, IsSumAt, IsToldPart, TellsPart, TellsVolume, window_at};
 
 use crate::facts::volume_text;
 use crate::image::TakenImage;
 use crate::words::TakeWords;
 use hfs_commands::{
-    Counted, DescribedRange, Fault, FilePart, LeftFile, NumberedRange, OpenedFile, PartBlocks,
-    RangeFacts, StoredFile, UnopenedFile, UserData, Window, describe_range, open_asked,
+    Counted, DescribedRange, Fault, FilePart, Layout, LeftFile, NumberedRange, OpenedFile,
+    PartBlocks, RangeFacts, StoredFile, UnopenedFile, UserData, Window, describe_range, open_asked,
     part_blocks,
 };
 use hfs_image::Unopened;
@@ -177,7 +177,8 @@ fn source_beside<R: Files>(
     was: &Metadata,
     found: &OpenedFile<R::File>,
 ) -> Option<OpenedFile<R::File>>
-    ensures { IfSome result (λ file. (held_bytes file ≡ None) × (held_bytes found.now ≡ None)) }
+    ensures held { IfSome result (λ file. (held_bytes file ≡ None) × (held_bytes found.now ≡ None)) }
+    ensures layout { IfSome result (λ file. opened_layout file ≡ opened_layout found.now) }
 {
     match found {
         OpenedFile::Plain(StoredFile::Whole(_)) => None,
@@ -196,8 +197,9 @@ fn raw_beside<R: Files>(
     was: &Metadata,
     user: &UserData<StoredFile<R::File>>,
 ) -> Option<OpenedFile<R::File>>
-    ensures { IfSome result (λ file. (held_bytes file ≡ None)
+    ensures held { IfSome result (λ file. (held_bytes file ≡ None)
         × (stored_bytes user.now.bytes ≡ None)) }
+    ensures layout { IfSome result (λ file. opened_layout file ≡ Layout.Raw) }
 {
     match &user.bytes {
         StoredFile::Whole(_) => None,
@@ -218,7 +220,7 @@ fn open_beside<R: Files>(
 ) -> Option<PartBlocks<R::File>>
     ensures held { IfSome result (λ blocks. held_bytes blocks.blocks.bytes.bytes
         ≡ held_bytes found.now.source) }
-    ensures range { IfSome result (AreBlocksAt found.now.range) }
+    ensures range { IfSome result (AreBlocksBeside found.now) }
 {
     let Ok(was) = was else {
         return None;
@@ -254,11 +256,11 @@ fn find_blocks<'a, R: Files + AllocGlobal>(
 ) -> Result<FoundBlocks<R::File>, UnopenedFile<'a, R::File>>
     ensures line { IfOk result (λ found. IsLineOf words.now.volume found.range
         (option_map string_bytes found.line)) }
-    ensures found { IfOk result (λ found. TellsPart
-        (record { source = found.source.blocks.bytes.bytes; range = found.range }) Volumes
+    ensures found { IfOk result (λ found. TellsPart (window_at found.range found.source) Volumes
         words.now.volume (option_map string_bytes found.line) found.sum) }
     ensures part { IfOk result (λ found. AreBlocksAt found.range found.source) }
-    ensures beside { IfOk result (λ found. IfSome found.beside (AreBlocksAt found.range)) }
+    ensures beside { IfOk result (λ found. IfSome found.beside
+        (AreBlocksBeside (window_at found.range found.source))) }
     ensures told { IfErr result (TellsWhy words.now.image (HasNoPart Volumes words.now.volume)
         WasNotRead) }
     ensures fault { IfErr result (λ back. IsUnopened words.now.image words.now.volume back.fault) }
@@ -373,8 +375,9 @@ pub(crate) fn open_image<'a, R: Files + AllocGlobal>(
 ) -> Result<OpenedTake<PlacedPart<R::File>>, UnopenedFile<'a, R::File>>
     ensures line { IfOk result (λ opened. TellsVolume words.now.volume opened.image.len
         (option_map string_bytes opened.image.volume)) }
-    ensures found { IfOk result (λ opened. TellsPartIn opened.image.opened Volumes
-        words.now.volume opened.image.len (option_map string_bytes opened.image.volume) opened.sum) }
+    ensures found { IfOk result (λ opened. HasOpenedPart opened.image.opened opened.image.beside
+        Volumes words.now.volume opened.image.len (option_map string_bytes opened.image.volume)
+        opened.sum) }
     ensures sound { IfOk result (λ opened. OfEach (parts_of opened.image.opened) HasNoFault) }
     ensures told { IfErr result (TellsWhy words.now.image (HasNoPart Volumes words.now.volume)
         (IsRefusedOf Volumes words.now.volume)) }

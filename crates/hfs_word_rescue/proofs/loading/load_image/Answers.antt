@@ -8,6 +8,7 @@ use Rattle.hfs_word_rescue.specs.Faults.{HasFailedIn}
 use Rattle.hfs_word_rescue.proofs.UnreadLemmas.{unfound_part}
 use Rattle.hfs_word_rescue.proofs.loading.load_image.Goals as goal
 use Rattle.hfs_word_take.proofs.PartLines.{seen_of_told}
+use Rattle.hfs_word_take.specs.Opening.{window_at}
 
 pub returns-in-Err-clause-fault : goal.returns-in-Err-clause-fault
 returns-in-Err-clause-fault g c =
@@ -28,7 +29,7 @@ returns-in-Err-clause-told g c =
     let found = c.in_ok-found.found in
     let left = c.in-Err.field-0.source in
     let volume = c.args.words.now.volume in
-    let part = record { source = found.source.blocks.bytes.bytes; range = found.range } in
+    let part = window_at found.range found.source in
     let are = blocks_of_same part found.source.blocks left.blocks c.in_ok-found.ensures.part c.in-Err.ensures.back in
     unfound_part c.args.words.now.image (HasNoPart Ranges volume) Ranges volume (HasFailedIn found.source) left c.in-Err.field-0.fault
     c.in-Err.ensures.told

@@ -11,7 +11,7 @@ use Rattle.hfs_source.specs.declared.asking.Counted.TheVariants.{Ranges}
 use Rattle.hfs_source.specs.Images.{OfEach}
 use Rattle.hfs_word_rescue.specs.declared.image.HoldFault.TheVariants.{NoDirectory}
 use Rattle.hfs_word_rescue.specs.Faults.{HasNoDirectory}
-use Rattle.hfs_word_take.specs.Opening.{TellsPartIn}
+use Rattle.hfs_word_take.specs.Opening.{TellsPartIn, window_at}
 use Rattle.hfs_word_take.proofs.PartLines.{told_in_part}
 use Rattle.hfs_word_rescue.proofs.RangeLemmas.{none_outside}
 use Rattle.hfs_word_rescue.proofs.loading.load_range.Goals as goal
@@ -21,7 +21,7 @@ returns-else-image-range-clause-found g c =
     let found = c.args.found in
     let image = c.in-Ok.image in
     let volume = c.args.words.now.volume in
-    let part = record { source = found.source.blocks.bytes.bytes; range = found.range } in
+    let part = window_at found.range found.source in
     let same : image.len ≡ found.range.len = search rules in
     let told : image.line ≡ found.line = search rules in
     let are = blocks_of_same part found.source.blocks image.source.blocks c.requires.part c.in-Ok.ensures.same in
