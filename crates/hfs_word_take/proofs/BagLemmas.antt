@@ -1,5 +1,6 @@
 -- Bags of images.
-use Rattle.std.proofs.Common.{◌≡◌, ℕ, List, [], ◌∷◌, ◌++◌, Option, Some, None, refl, sym, subst, ◌∙◌}
+use Rattle.std.proofs.Common.{◌≡◌, ℕ, Bool, true, false, List, [], ◌∷◌, ◌++◌, Option, Some, None, ap, refl, sym, subst, ◌∙◌}
+use Rattle.std.specs.Option.{is_some}
 use Rattle.std.specs.Prelude.{codes}
 use Rattle.std.specs.Borrow.{Bor}
 use Rattle.std.specs.Fmt.{decimal}
@@ -15,7 +16,7 @@ use Rattle.hfs_texts.specs.Lines.{line}
 use Rattle.hfs_word_take.specs.Items.{bag_items, entries_in, table_text}
 use Rattle.hfs_items.specs.ToldRows.{told_rows}
 use Rattle.hfs_word_take.specs.declared.words.TakeWords.{TakeWords}
-use Rattle.hfs_word_take.specs.Bags.{OfBag, TellsOf, image_bag, text_in}
+use Rattle.hfs_word_take.specs.Bags.{IsDigestBeside, OfBag, TellsOf, digest_told, image_bag, text_in}
 
 -- ---- what tells the same makes the same bag
 
@@ -91,9 +92,9 @@ bag-with items table report info = payload items ++
     ∷ file (codes "tagmanifest-sha256.txt") None
     (manifest (declaration_file ∷ file (codes "bag-info.txt") None info ∷ table_file table ∷ file (codes "volume.txt") None report ∷ manifest_file items ∷ [])) ∷ [])
 
-bag-same : (image : List ℕ) (line : Option (List ℕ)) (words : TakeWords) (f g : BagFacts) → TellsOf image line words f → TellsOf image line words g
-    → image_bag image f ≡ image_bag image g
-bag-same image told words f g a b =
+bag-same : (image : List ℕ) (line : Option (List ℕ)) (words : TakeWords) (digest : Option (List ℕ)) (f g : BagFacts) → TellsOf image line words digest f
+    → TellsOf image line words digest g → image_bag image f ≡ image_bag image g
+bag-same image told words digest f g a b =
     let items = bag_items (entries_in image) in
     let info = info_same f g (a.identifier_is ∙ sym b.identifier_is) (a.program_is ∙ sym b.program_is) (a.image_is ∙ sym b.image_is) (a.volume_is ∙ sym b.volume_is)
     (a.directory_is ∙ sym b.directory_is) (a.bytes_are ∙ sym b.bytes_are) (a.digest_is ∙ sym b.digest_is) (bytes_in (payload items)) (files_in (payload items)) in
@@ -102,17 +103,36 @@ bag-same image told words f g a b =
 -- ---- what was given of an image's bag
 
 -- what holds of the bag that these facts make holds of each that tells the same
-pub of_facts : (image : List ℕ) (line : Option (List ℕ)) (words : TakeWords) (facts : BagFacts) (P : List ShelfEntry → Type 0) → TellsOf image line words facts
-    → P (image_bag image facts) → OfBag line words P image
-of_facts image line words facts P tells given = λ other told. subst P (bag-same image line words facts other tells told) given
+pub of_facts : (image : List ℕ) (line : Option (List ℕ)) (words : TakeWords) (Beside : List ℕ → Type 0) (digest : Option (List ℕ)) (facts : BagFacts)
+    (P : List ShelfEntry → Type 0) → IsDigestBeside Beside words.is_digested image digest → TellsOf image line words digest facts
+    → P (image_bag image facts) → OfBag line words Beside P image
+of_facts image line words Beside digest facts P is tells given =
+    (digest, is, λ other told. subst P (bag-same image line words digest facts other tells told) given)
+
+-- of a bag that isn't whole the digest may be the image's
+digest-asked : (is_digested : Bool) (image : List ℕ) → is_some (digest_told is_digested image) ≡ is_digested
+digest-asked true image = refl
+digest-asked false image = refl
+
+pub digest_told_is : (Beside : List ℕ → Type 0) (is_digested : Bool) (image : List ℕ) (told : Option (List ℕ)) → told ≡ digest_told is_digested image
+    → IsDigestBeside Beside is_digested image told
+digest_told_is Beside is_digested image told is = record { there = ap is_some is ∙ digest-asked is_digested image; is = λ beside. is }
 
 -- a part of the payload was given
-pub payload_part : (image : List ℕ) (line : Option (List ℕ)) (words : TakeWords) (given now : List ShelfEntry)
-    → IsBeginning now (given ++ payload (bag_items (entries_in image))) → OfBag line words (λ bag. IsBeginning now (given ++ bag)) image
-payload_part image line words given now part = λ facts told.
-    let items = bag_items (entries_in image) in
-    part_first given now (payload items) (tag_files items (record { items = table_text (told_rows (entries_in image)); remains = None }) facts) part
+pub payload_part : (image : List ℕ) (line : Option (List ℕ)) (words : TakeWords) (Beside : List ℕ → Type 0) (given now : List ShelfEntry)
+    → IsBeginning now (given ++ payload (bag_items (entries_in image))) → OfBag line words Beside (λ bag. IsBeginning now (given ++ bag)) image
+payload_part image line words Beside given now part =
+    let items = bag_items (entries_in image) in (
+      digest_told words.is_digested image,
+      digest_told_is Beside words.is_digested image (digest_told words.is_digested image) refl,
+      λ facts told. part_first given now (payload items) (tag_files items (record { items = table_text (told_rows (entries_in image)); remains = None }) facts) part,
+    )
 
 -- nothing of a bag was given
-pub nothing_given : (image : List ℕ) (line : Option (List ℕ)) (words : TakeWords) (given : List ShelfEntry) → OfBag line words (λ bag. IsBeginning given (given ++ bag)) image
-nothing_given image line words given = λ facts told. begins_appended given (image_bag image facts)
+pub nothing_given : (image : List ℕ) (line : Option (List ℕ)) (words : TakeWords) (Beside : List ℕ → Type 0) (given : List ShelfEntry)
+    → OfBag line words Beside (λ bag. IsBeginning given (given ++ bag)) image
+nothing_given image line words Beside given = (
+  digest_told words.is_digested image,
+  digest_told_is Beside words.is_digested image (digest_told words.is_digested image) refl,
+  λ facts told. begins_appended given (image_bag image facts),
+)

@@ -7,7 +7,7 @@ use Rattle.hfs_bag.specs.declared.fault.BagFault.TheVariants as bag
 use Rattle.hfs_bag.specs.declared.source.SourceFault.TheVariants as source
 use Rattle.hfs_check.specs.declared.mount_fault.MountFault.TheVariants as mount
 use Rattle.hfs_commands.specs.declared.fault.Fault.{Fault}
-use Rattle.hfs_commands.specs.declared.fault.Fault.TheVariants.{CannotRead, NoMemory, Refused}
+use Rattle.hfs_commands.specs.declared.fault.Fault.TheVariants.{CannotRead, NoMemory}
 use Rattle.hfs_commands.specs.declared.opened_file.OpenedFile.{OpenedFile}
 use Rattle.hfs_commands.specs.declared.unopened.LeftFile.TheVariants.{Part}
 use Rattle.hfs_commands.specs.Faults.{IsUnopened, KeepsRefusal}
@@ -23,7 +23,6 @@ use Rattle.hfs_bag.specs.declared.shelf_fault.ShelfFault.TheVariants as shelf
 use Rattle.hfs_bag.specs.ShelfPaths.{IsNewFolder}
 use Rattle.hfs_bag.specs.Told.{Tells, TellsNewFolder, TellsWithin}
 use Rattle.hfs_word_take.specs.declared.fault.TakeFault.{TakeFault}
-use Rattle.hfs_word_take.specs.declared.fault.TakeFault.TheVariants as take
 use Rattle.hfs_word_take.specs.declared.words.TakeWords.{TakeWords}
 use Rattle.hfs_word_take.specs.TakeFaults.{IsImageFault, IsTakeFault, IsUntaken, IsUnwritten, fault_of_bag, fault_of_shelf, needed_fault}
 

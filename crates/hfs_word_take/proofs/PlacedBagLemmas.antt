@@ -9,7 +9,6 @@ use Rattle.hfs_bag.specs.Left.{IsLeft}
 use Rattle.hfs_bag.specs.declared.fault.BagFault.{BagFault}
 use Rattle.hfs_bag.specs.Removals.{HasOpenedFolder, IsPlaced}
 use Rattle.hfs_bag.specs.ShelfPlaces.{ShelfPlace, others_in, shelf_place}
-use Rattle.hfs_commands.specs.declared.fault.Fault.TheVariants.{NoMemory}
 use Rattle.hfs_bag.specs.SystemSteps.{SystemStep, done, looked}
 use Rattle.hfs_bag.specs.Told.{Tells}
 use Rattle.hfs_word_take.specs.declared.fault.TakeFault.{TakeFault}
@@ -21,19 +20,24 @@ use Rattle.hfs_word_take.specs.Placed.{HasPlaced, IsAwayFor, IsBagAway, IsBagUnp
 use Rattle.hfs_word_take.proofs.FaultLemmas.{of_shelf, unplaced}
 
 -- a folder that has been given the bag, beginning with nothing, got its place
-pub placed-bag : (Holds : List ℕ → Type 0) (line : Option (List ℕ)) (words : TakeWords) (path folder now : List ℕ) (before given : List ShelfEntry)
+pub placed-bag : (Holds Beside : List ℕ → Type 0) (line : Option (List ℕ)) (words : TakeWords) (path folder now : List ℕ) (before given : List ShelfEntry)
     (old opened filled steps : List SystemStep) → before ≡ [] → shelf_place now filled ≡ shelf_place folder opened → HasOpenedFolder path folder old opened
-    → OfEach Holds (OfBag line words (λ bag. given ≡ before ++ bag)) → IsPlaced path now given (others_in now filled) steps
-    → OfEach Holds (OfBag line words (λ bag. HasPlaced path bag old steps))
-placed-bag Holds line words path folder now before given old opened filled steps empty place is_new whole is = λ image h facts tells. record {
-  folder = folder;
-  opened = opened;
-  is_new = is_new;
-  placed = subst (λ (f : List ℕ). IsPlaced path f (image_bag image facts) (others_in folder opened) steps) (ap (λ (p : ShelfPlace). p.folder) place)
-      (subst (λ (others : List SystemStep). IsPlaced path now (image_bag image facts) others steps) (ap (λ (p : ShelfPlace). p.others) place)
-      (subst (λ (bag : List ShelfEntry). IsPlaced path now bag (others_in now filled) steps)
-      (whole image h facts tells ∙ ap (λ (xs : List ShelfEntry). xs ++ image_bag image facts) empty) is));
-}
+    → OfEach Holds (OfBag line words Beside (λ bag. given ≡ before ++ bag)) → IsPlaced path now given (others_in now filled) steps
+    → OfEach Holds (OfBag line words Beside (λ bag. HasPlaced path bag old steps))
+placed-bag Holds Beside line words path folder now before given old opened filled steps empty place is_new whole is = λ image h.
+    let of = whole image h in (
+      of.0,
+      of.1,
+      λ facts tells. record {
+        folder = folder;
+        opened = opened;
+        is_new = is_new;
+        placed = subst (λ (f : List ℕ). IsPlaced path f (image_bag image facts) (others_in folder opened) steps) (ap (λ (p : ShelfPlace). p.folder) place)
+            (subst (λ (others : List SystemStep). IsPlaced path now (image_bag image facts) others steps) (ap (λ (p : ShelfPlace). p.others) place)
+            (subst (λ (bag : List ShelfEntry). IsPlaced path now bag (others_in now filled) steps)
+            (of.2 facts tells ∙ ap (λ (xs : List ShelfEntry). xs ++ image_bag image facts) empty) is));
+      },
+    )
 
 -- ---- a folder that did not get its place
 

@@ -15,7 +15,7 @@ use Rattle.hfs_word_take.specs.Reading.{BeginsWith}
 use Rattle.hfs_items.specs.ToldRows.{ToldRow, told_rows}
 use Rattle.hfs_check.specs.Report.{report_of}
 use Rattle.hfs_word_take.specs.declared.words.TakeWords.{TakeWords}
-use Rattle.hfs_word_take.specs.Bags.{TellsOf, digest_told, report_text, root_name, text_in}
+use Rattle.hfs_word_take.specs.Bags.{TellsOf, report_text, root_name, text_in}
 use Rattle.hfs_word_take.specs.Facts.{image_name}
 
 root-named : (root : Info) (rows : List ToldRow) → BeginsWith root rows → root.name ≡ root_name rows
@@ -36,11 +36,11 @@ report_told image head lines text report held long told checked is =
     is ∙ (λ i. head-same image head (held ∙ ap (λ n. take n image) long) i ++ (checked ∙ ap check_lines told) i)
 
 -- of an image, with the name of its root
-pub tells_of : (image : List ℕ) (len : ℕ) (line : Option (List ℕ)) (words : TakeWords) (facts : BagFacts) (root : Info) → BeginsWith root (told_rows (entries_in image))
+pub tells_of : (image : List ℕ) (len : ℕ) (line : Option (List ℕ)) (words : TakeWords) (told : Option (List ℕ)) (facts : BagFacts) (root : Info) → BeginsWith root (told_rows (entries_in image))
     → length image ≡ len → facts.identifier.now ≡ plain_text root.name → facts.program.now ≡ words.program.now → facts.image.now ≡ image_name words.image.now
-    → text_in facts.volume ≡ line → text_in facts.directory ≡ None → facts.bytes ≡ len → facts.digest ≡ digest_told words.is_digested image
-    → facts.report.now ≡ report_text image → TellsOf image line words facts
-tells_of image len line words facts root begins long identifier program name volume directory bytes digest report = record {
+    → text_in facts.volume ≡ line → text_in facts.directory ≡ None → facts.bytes ≡ len → facts.digest ≡ told
+    → facts.report.now ≡ report_text image → TellsOf image line words told facts
+tells_of image len line words told facts root begins long identifier program name volume directory bytes digest report = record {
   identifier_is = identifier ∙ ap plain_text (root-named root _ begins);
   program_is = program;
   image_is = name;

@@ -1,7 +1,7 @@
 -- The bag of an image.
 use Rattle.std.specs.Prelude.{◌≡◌, ℕ, Bool, true, false, List, [], ◌∷◌, ◌++◌, length, Option, Some, None}
 use Rattle.std.specs.Borrow.{Bor}
-use Rattle.std.specs.Option.{option_map}
+use Rattle.std.specs.Option.{is_some, option_map}
 use Rattle.sha2.specs.Sha256.{sha256}
 use Rattle.hfs_bag.specs.declared.facts.BagFacts.{BagFacts}
 use Rattle.hfs_bag.specs.Tags.{bag_of}
@@ -34,24 +34,31 @@ digest_told false image = None
 abbrev pub text_in : Option (Bor (List ℕ)) → Option (List ℕ)
 text_in text = option_map (λ (lent : Bor (List ℕ)). lent.now) text
 
--- a bag tells this of an image with these bytes, for these words; `line` is where the volume lies in its file, where it was looked for there
-pub record TellsOf (image : List ℕ) (line : Option (List ℕ)) (words : TakeWords) (facts : BagFacts) : Type 0 where
+-- this digest is told of an image, where one is asked for; where it was made of what was read beside, and the image has those bytes, it is the image's
+pub record IsDigestBeside (Beside : List ℕ → Type 0) (is_digested : Bool) (image : List ℕ) (digest : Option (List ℕ)) : Type 0 where
+  pub there : is_some digest ≡ is_digested
+  pub is : Beside image → digest ≡ digest_told is_digested image
+
+-- a bag tells this of an image with these bytes, for these words, and this digest; `line` is where the volume lies in its file, where it was looked for
+-- there
+pub record TellsOf (image : List ℕ) (line : Option (List ℕ)) (words : TakeWords) (digest : Option (List ℕ)) (facts : BagFacts) : Type 0 where
   pub identifier_is : facts.identifier.now ≡ plain_text (root_name (told_rows (entries_in image)))
   pub program_is : facts.program.now ≡ words.program.now
   pub image_is : facts.image.now ≡ image_name words.image.now
   pub volume_is : text_in facts.volume ≡ line
   pub directory_is : text_in facts.directory ≡ None
   pub bytes_are : facts.bytes ≡ length image
-  pub digest_is : facts.digest ≡ digest_told words.is_digested image
+  pub digest_is : facts.digest ≡ digest
   pub report_is : facts.report.now ≡ report_text image
 
 -- the bag of its volume's items, which tells this of it
 abbrev pub image_bag : List ℕ → BagFacts → List ShelfEntry
 image_bag image facts = bag_of (bag_items (entries_in image)) (record { items = table_text (told_rows (entries_in image)); remains = None }) facts
 
--- this holds of an image's bag
-abbrev pub OfBag : Option (List ℕ) → TakeWords → (List ShelfEntry → Type 0) → List ℕ → Type 0
-OfBag line words Fact image = (facts : BagFacts) → TellsOf image line words facts → Fact (image_bag image facts)
+-- this holds of an image's bag, with such a digest
+abbrev pub OfBag : Option (List ℕ) → TakeWords → (List ℕ → Type 0) → (List ShelfEntry → Type 0) → List ℕ → Type 0
+OfBag line words Beside Fact image = (digest : Option (List ℕ)) × IsDigestBeside Beside words.is_digested image digest
+    × ((facts : BagFacts) → TellsOf image line words digest facts → Fact (image_bag image facts))
 
 -- ---- parts of what it tells
 

@@ -16,7 +16,3 @@ IsDigestOf known len digest = OfKnown known len (λ image. digest ≡ sha256 ima
 abbrev pub HoldsBeside : {S : Type 0} → (S → List ℕ → Type 0) → Option (SeenBlocks S) → List ℕ → Type 0
 HoldsBeside Holds None image = ⊤
 HoldsBeside Holds (Some beside) image = Holds beside.blocks image
-
--- the image has the bytes which were read of either source
-abbrev pub HoldsBoth : {S : Type 0} → (S → List ℕ → Type 0) → S → Option (SeenBlocks S) → List ℕ → Type 0
-HoldsBoth Holds source beside image = Holds source image × HoldsBeside Holds beside image

@@ -7,7 +7,7 @@ ghost use Rattle.hfs_bag.specs.Sources.{KeepsItems};
 ghost use Rattle.hfs_bag.specs.Entries.{IsBeginning};
 ghost use Rattle.hfs_source.specs.Images.{HasLength, OfEach};
 ghost use Rattle.hfs_source.specs.Seen.{EachKnown};
-ghost use Rattle.hfs_word_take.specs.Bags.{digest_told};
+ghost use Rattle.hfs_word_take.specs.Bags.{IsDigestBeside, digest_told};
 ghost use Rattle.hfs_word_take.specs.Digests.{HoldsBeside, IsDigestOf};
 ghost use Rattle.hfs_word_take.specs.Planned.{IsPlanned};
 
@@ -126,8 +126,8 @@ pub(crate) fn give_first<R: Threads, S: PlacedBlocks + Send, T: Shelf, B: BagSou
     ensures kept { OnOk result (OfEach (B.Holds items.new)
         (λ bytes. KeepsItems (B.state items.old bytes) (B.state items.new bytes))) }
     ensures digest { IfOk result (λ made. OfEach (B.Holds items.new)
-        (λ bytes. HoldsBeside S.Holds beside.new bytes → length bytes ≡ plan.now.len
-        → made.1 ≡ digest_told plan.now.is_digested bytes)) }
+        (λ bytes. length bytes ≡ plan.now.len
+        → IsDigestBeside (HoldsBeside S.Holds beside.new) plan.now.is_digested bytes made.1)) }
     ensures fault { IfErr result (IsPayloadFault (λ _. ⊤) (T.Fails (T.place shelf.old))
         (B.Holds items.new) (B.state items.old)) }
     ensures place { T.place shelf.new ≡ T.place shelf.old }

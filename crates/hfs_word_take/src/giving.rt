@@ -9,7 +9,7 @@ ghost use Rattle.hfs_items.specs.ToldRows.{told_rows};
 ghost use Rattle.hfs_bag.specs.Entries.{IsBeginning};
 ghost use Rattle.hfs_source.specs.Images.{HasAt, HasLength, OfEach};
 ghost use Rattle.hfs_word_take.specs.Bags.{OfBag, report_text, text_in};
-ghost use Rattle.hfs_word_take.specs.Digests.{HoldsBoth};
+ghost use Rattle.hfs_word_take.specs.Digests.{HoldsBeside};
 ghost use Rattle.hfs_word_take.specs.TakeFaults.{IsFillFault};
 ghost use Rattle.hfs_word_take.specs.Planned.{IsPlanned};
 ghost use Rattle.hfs_word_take.specs.Told.{IsToldOf};
@@ -139,11 +139,11 @@ fn give_items<R: Threads, S: PlacedBlocks + Drop + Send, T: Shelf, W: Watch>(
         (IsToldOf words.now is_made about.now.told) }
     requires planned { OfEach (S.Holds watched.old.items.source.image)
         (IsPlanned beside.old words.now.is_digested about.now.told.digest) }
-    ensures whole { OnOk result (OfEach (HoldsBoth S.Holds watched.new.items.source.image beside.new)
-        (OfBag (option_map string_bytes about.now.volume) words.now
+    ensures whole { OnOk result (OfEach (S.Holds watched.new.items.source.image)
+        (OfBag (option_map string_bytes about.now.volume) words.now (HoldsBeside S.Holds beside.new)
         (λ bag. T.given shelf.new ≡ T.given shelf.old ++ bag))) }
-    ensures part { OnErr result (OfEach (HoldsBoth S.Holds watched.new.items.source.image beside.new)
-        (OfBag (option_map string_bytes about.now.volume) words.now
+    ensures part { OnErr result (OfEach (S.Holds watched.new.items.source.image)
+        (OfBag (option_map string_bytes about.now.volume) words.now (HoldsBeside S.Holds beside.new)
         (λ bag. IsBeginning (T.given shelf.new) (T.given shelf.old ++ bag)))) }
     ensures sums { IfOk result (λ sums. OfEach (S.Holds watched.new.items.source.image)
         (λ bytes. IsSumOf sums (bag_items (entries_in bytes)))) }
@@ -185,8 +185,8 @@ pub struct GivenBag<S: PlacedBlocks> {
 }
 
 /// Gives a shelf the bag of an image: the items of its volume, and what these words say about it. The digest is made in a thread
-/// of its own if the image was opened a second time. At a fault, what was given is a beginning of the bag. All this holds for
-/// every image consistent with the bytes read, by either opening. Faults: reading the image, those of the shelf, memory was
+/// of its own if the image was opened a second time, and is that of each image that has what was read by either opening. At a
+/// fault, what was given is a beginning of the bag. All this holds for every image consistent with the bytes read. Faults: reading the image, those of the shelf, memory was
 /// refused; `TooLarge`.
 #[tactic(auto, using(crate::proofs::BagLemmas::nothing_given))]
 pub fn give_image<R: Threads, S: PlacedBlocks + Drop + Send, T: Shelf, W: Watch>(
@@ -197,10 +197,12 @@ pub fn give_image<R: Threads, S: PlacedBlocks + Drop + Send, T: Shelf, W: Watch>
     words: &TakeWords<'_>,
     watch: &W,
 ) -> GivenBag<S>
-    ensures whole { OnOk result.sums (OfEach (HoldsBoth S.Holds result.image result.beside)
-        (OfBag (option_map string_bytes image.volume) words.now (λ bag. T.given shelf.new ≡ T.given shelf.old ++ bag))) }
-    ensures part { OnErr result.sums (OfEach (HoldsBoth S.Holds result.image result.beside)
-        (OfBag (option_map string_bytes image.volume) words.now (λ bag. IsBeginning (T.given shelf.new) (T.given shelf.old ++ bag)))) }
+    ensures whole { OnOk result.sums (OfEach (S.Holds result.image)
+        (OfBag (option_map string_bytes image.volume) words.now (HoldsBeside S.Holds result.beside)
+        (λ bag. T.given shelf.new ≡ T.given shelf.old ++ bag))) }
+    ensures part { OnErr result.sums (OfEach (S.Holds result.image)
+        (OfBag (option_map string_bytes image.volume) words.now (HoldsBeside S.Holds result.beside)
+        (λ bag. IsBeginning (T.given shelf.new) (T.given shelf.old ++ bag)))) }
     ensures sums { IfOk result.sums (λ sums. OfEach (S.Holds result.image)
         (λ bytes. IsSumOf sums (bag_items (entries_in bytes)))) }
     ensures fault { IfErr result.sums (IsFillFault (T.Fails (T.place shelf.old)) (S.Holds result.image)) }

@@ -9,7 +9,7 @@ ghost use Rattle.hfs_bag.specs.Removals.{IsPlaced};
 ghost use Rattle.hfs_bag.specs.ShelfPlaces.{others_in};
 ghost use Rattle.hfs_bag.specs.SystemSteps.{done, looked};
 ghost use Rattle.hfs_word_take.specs.Bags.{OfBag};
-ghost use Rattle.hfs_word_take.specs.Digests.{HoldsBoth};
+ghost use Rattle.hfs_word_take.specs.Digests.{HoldsBeside};
 ghost use Rattle.hfs_word_take.specs.TakeFaults.{IsTakeFault, IsUngiven, taken_text};
 ghost use Rattle.hfs_word_take.specs.Folders.{IsFolderPath};
 ghost use Rattle.hfs_word_take.specs.Placed.{HasPlaced, IsAwayFor, IsBagAway, IsBagUnplaced, IsUnplaced, StaysOrNoMemory};
@@ -120,8 +120,9 @@ fn write_bag<'a, Y: FileSystem + Drop, H: Threads, S: PlacedBlocks + Drop + Send
     ensures back { IfErr result (λ back. OfEach (S.Holds back.image) (S.Holds image.opened)) }
     ensures sums { IfOk result (λ placed. OfEach (S.Holds placed.image)
         (λ bytes. IsSumOf placed.sums (bag_items (entries_in bytes)))) }
-    ensures placed { IfOk result (λ placed. OfEach (HoldsBoth S.Holds placed.image placed.beside)
-        (OfBag (option_map string_bytes image.volume) words.now (λ bag. HasPlaced words.now.folder.now bag (Y.did system) (Y.did placed.system)))) }
+    ensures placed { IfOk result (λ placed. OfEach (S.Holds placed.image)
+        (OfBag (option_map string_bytes image.volume) words.now (HoldsBeside S.Holds placed.beside)
+        (λ bag. HasPlaced words.now.folder.now bag (Y.did system) (Y.did placed.system)))) }
     ensures narrows { IfOk result (λ placed. OfEach (S.Holds placed.image) (S.Holds image.opened)) }
 {
     let mut shelf = match FileShelf::create(alloc, system, words.folder) {
@@ -183,8 +184,9 @@ pub fn take_opened<'a, Y: FileSystem + Drop, H: Threads, S: PlacedBlocks + Drop 
     ensures back { IfErr result (λ back. OfEach (S.Holds back.image) (S.Holds image.opened)) }
     ensures sums { IfOk result (λ placed. OfEach (S.Holds placed.image)
         (λ bytes. IsSumOf placed.sums (bag_items (entries_in bytes)))) }
-    ensures placed { IfOk result (λ placed. OfEach (HoldsBoth S.Holds placed.image placed.beside)
-        (OfBag (option_map string_bytes image.volume) words.now (λ bag. HasPlaced words.now.folder.now bag
+    ensures placed { IfOk result (λ placed. OfEach (S.Holds placed.image)
+        (OfBag (option_map string_bytes image.volume) words.now (HoldsBeside S.Holds placed.beside)
+        (λ bag. HasPlaced words.now.folder.now bag
         (done (looked words.now.folder.now false) ∷ Y.did system) (Y.did placed.system)))) }
     ensures narrows { IfOk result (λ placed. OfEach (S.Holds placed.image) (S.Holds image.opened)) }
 {

@@ -11,18 +11,18 @@ use Rattle.hfs_items.specs.ToldRows.{told_rows}
 use Rattle.hfs_bag.specs.Entries.{IsBeginning, ShelfEntry}
 use Rattle.hfs_source.specs.Images.{OfEach}
 use Rattle.hfs_word_take.specs.Bags.{OfBag}
-use Rattle.hfs_word_take.specs.Digests.{HoldsBoth}
+use Rattle.hfs_word_take.specs.Digests.{HoldsBeside}
 use Rattle.hfs_word_take.specs.TakeFaults.{IsFillFault}
 use Rattle.hfs_word_take.proofs.BagLemmas.{nothing_given}
 use Rattle.hfs_word_take.proofs.giving.give_image.Goals as goal
 
 pub returns-in-Err-clause-part : goal.returns-in-Err-clause-part
 returns-in-Err-clause-part g c = λ image h.
-    nothing_given image (option_map (string_bytes {Z = Global}) c.args.image.volume) c.args.words.now (g.T.Shelf.given c.args.shelf.now)
+    nothing_given image (option_map (string_bytes {Z = Global}) c.args.image.volume) c.args.words.now (HoldsBeside g.S.PlacedBlocks.Holds c.plan_digest-beside.result.0) (g.T.Shelf.given c.args.shelf.now)
 
 pub returns-in-Err-new-clause-part : goal.returns-in-Err-new-clause-part
 returns-in-Err-new-clause-part g c = λ image h.
-    nothing_given image (option_map (string_bytes {Z = Global}) c.args.image.volume) c.args.words.now (g.T.Shelf.given c.args.shelf.now)
+    nothing_given image (option_map (string_bytes {Z = Global}) c.args.image.volume) c.args.words.now (HoldsBeside g.S.PlacedBlocks.Holds c.plan_digest-beside.result.0) (g.T.Shelf.given c.args.shelf.now)
 
 pub give_items-sums-requires-clause-len : goal.give_items-sums-requires-clause-len
 give_items-sums-requires-clause-len g c κs within = λ image h.
@@ -51,8 +51,8 @@ returns-clause-whole g c =
     let before = g.T.Shelf.given c.args.shelf.now in
     let now = g.T.Shelf.given given.new.shelf in
     let Holds = g.S.PlacedBlocks.Holds in
-    subst (λ s. OnOk given.result (OfEach (HoldsBoth Holds s given.new.beside)
-    (OfBag (option_map (string_bytes {Z = Global}) c.args.image.volume) c.args.words.now (λ (bag : List ShelfEntry). now ≡ before ++ bag)))) (sym (c.into_image.ensures ∙ ap (λ (items : ImageItems g.row.S.Denot). items.source.image) c.into_items.ensures)) given.ensures.whole
+    subst (λ s. OnOk given.result (OfEach (Holds s)
+    (OfBag (option_map (string_bytes {Z = Global}) c.args.image.volume) c.args.words.now (HoldsBeside Holds given.new.beside) (λ (bag : List ShelfEntry). now ≡ before ++ bag)))) (sym (c.into_image.ensures ∙ ap (λ (items : ImageItems g.row.S.Denot). items.source.image) c.into_items.ensures)) given.ensures.whole
 
 pub returns-clause-part : goal.returns-clause-part
 returns-clause-part g c =
@@ -60,8 +60,8 @@ returns-clause-part g c =
     let before = g.T.Shelf.given c.args.shelf.now in
     let now = g.T.Shelf.given given.new.shelf in
     let Holds = g.S.PlacedBlocks.Holds in
-    subst (λ s. OnErr given.result (OfEach (HoldsBoth Holds s given.new.beside)
-    (OfBag (option_map (string_bytes {Z = Global}) c.args.image.volume) c.args.words.now (λ (bag : List ShelfEntry). IsBeginning now (before ++ bag))))) (sym (c.into_image.ensures ∙ ap (λ (items : ImageItems g.row.S.Denot). items.source.image) c.into_items.ensures)) given.ensures.part
+    subst (λ s. OnErr given.result (OfEach (Holds s)
+    (OfBag (option_map (string_bytes {Z = Global}) c.args.image.volume) c.args.words.now (HoldsBeside Holds given.new.beside) (λ (bag : List ShelfEntry). IsBeginning now (before ++ bag))))) (sym (c.into_image.ensures ∙ ap (λ (items : ImageItems g.row.S.Denot). items.source.image) c.into_items.ensures)) given.ensures.part
 
 pub returns-clause-sums : goal.returns-clause-sums
 returns-clause-sums g c =

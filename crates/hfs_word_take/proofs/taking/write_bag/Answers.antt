@@ -5,7 +5,7 @@ use Rattle.hfs_bag.specs.declared.sums.BagSums.{BagSums}
 use Rattle.hfs_bag.specs.Entries.{ShelfEntry}
 use Rattle.hfs_source.specs.Images.{OfEach}
 use Rattle.hfs_word_take.specs.Bags.{OfBag}
-use Rattle.hfs_word_take.specs.Digests.{HoldsBoth}
+use Rattle.hfs_word_take.specs.Digests.{HoldsBeside}
 use Rattle.std.specs.Option.{option_map}
 use Rattle.std.specs.Prelude.{string_bytes}
 use Rattle.hfs_bag.specs.Told.{TellsWithin}
@@ -47,13 +47,14 @@ pub returns-in-Ok-place_bag-clause-placed : goal.returns-in-Ok-place_bag-clause-
 returns-in-Ok-place_bag-clause-placed g c =
     let shelf = c.in-Ok.shelf in
     let filled = c.give_image-sums.new.shelf in
-    let Holds = HoldsBoth g.S.PlacedBlocks.Holds c.give_image-sums.result.image c.give_image-sums.result.beside in
+    let Holds = g.S.PlacedBlocks.Holds c.give_image-sums.result.image in
+    let Beside = HoldsBeside g.S.PlacedBlocks.Holds c.give_image-sums.result.beside in
     let line = option_map (string_bytes {Z = Global}) c.args.image.volume in
     let before = given_by (string_bytes {Z = Global} shelf.folder) shelf.modified (g.Y.FileSystem.did shelf.system) in
     let given = given_by (string_bytes {Z = Global} filled.folder) filled.modified (g.Y.FileSystem.did filled.system) in
-    let whole = subst (λ (sums : Result BagSums BagFault). OnOk sums (OfEach Holds (OfBag line c.args.words.now (λ (bag : List ShelfEntry). given ≡ before ++ bag)))) c.in-Ok-sums.is
+    let whole = subst (λ (sums : Result BagSums BagFault). OnOk sums (OfEach Holds (OfBag line c.args.words.now Beside (λ (bag : List ShelfEntry). given ≡ before ++ bag)))) c.in-Ok-sums.is
     c.give_image-sums.ensures.whole in
-    placed-bag Holds line c.args.words.now c.args.words.now.folder.now (string_bytes {Z = Global} shelf.folder) (string_bytes {Z = Global} filled.folder) before given
+    placed-bag Holds Beside line c.args.words.now c.args.words.now.folder.now (string_bytes {Z = Global} shelf.folder) (string_bytes {Z = Global} filled.folder) before given
     (g.Y.FileSystem.did c.args.system) (g.Y.FileSystem.did shelf.system) (g.Y.FileSystem.did filled.system) (g.Y.FileSystem.did c.in-Ok-place_bag.system)
     c.in-Ok.ensures.empty c.give_image-sums.ensures.place c.in-Ok.ensures.made whole c.in-Ok-place_bag.ensures.placed
 
