@@ -4,7 +4,7 @@ use Rattle.hfs_image.specs.Failing.{SomeReadFails}
 use Rattle.hfs_image.specs.Kept.{range_failures, range_images}
 use Rattle.hfs_word_rescue.specs.Faults.{IsUnheld}
 use Rattle.hfs_word_rescue.proofs.LookedLemmas.{unfailed, unlooked}
-use Rattle.hfs_word_rescue.proofs.image.RescuedImage.open.Goals as goal
+use Rattle.hfs_word_rescue.proofs.image.RescuedImage+RangeBlocks+S.open.Goals as goal
 
 pub returns-in-Ok-clause-none : goal.returns-in-Ok-clause-none
 returns-in-Ok-clause-none g c =
