@@ -1,5 +1,5 @@
 -- What is asked for of a file, and its faults.
-use Rattle.std.proofs.Common.{◌≡◌, ◌∙◌, ℕ, List, Option, None, Some, ap, refl, sym, subst}
+use Rattle.std.proofs.Common.{◌≡◌, ◌∙◌, ℕ, List, Option, None, Some, ap, inl, inr, refl, sym, subst}
 use Rattle.std.specs.Prelude.{◌*◌, ◌/◌, length}
 use Rattle.std.specs.Borrow.{Bor}
 use Rattle.hfs_commands.specs.OpenedFiles.{IsLaidOut, IsWholeRange, failures_of, files_of, images_of, opened_layout, range_by, stored_failures, stored_images}
@@ -57,6 +57,12 @@ plain_laid old new plain held = λ image holds. plain image (held image holds)
 pub opened_laid : {F : Type 0} (opened : OpenedFile F) (old new : StoredFile F) → opened ≡ Plain old → IsLaidOut opened
     → OfEach (stored_images new) (stored_images old) → IsLaidOut (Plain new)
 opened_laid opened old new is laid held = plain_laid old new (subst IsLaidOut is laid) held
+
+-- where a read of some sectors fails, that of their user data does
+pub data_later : (New Old : ℕ → ℕ → Type 0) (sectors : ℕ) → FailsWhere New Old → FailsWhere (FailsInData New sectors) (FailsInData Old sectors)
+data_later New Old sectors later place count (inl past) = inl past
+data_later New Old sectors later place count (inr (inl some)) = inr (inl (some.0, some.1, later (some.0 * 2352) 2352 some.2))
+data_later New Old sectors later place count (inr (inr none)) = inr (inr (none.0, later 0 0 none.1))
 
 -- ---- user data that was read through a file which is known to be of raw sectors
 

@@ -2,7 +2,7 @@
 ghost use Rattle.std.specs.Prelude.{◌≡◌, IfErr, IfOk, IfNone, IfSome, None};
 ghost use Rattle.hfs_source.specs.Raw.{layout_of};
 ghost use Rattle.hfs_source.specs.Sectors.{other_count};
-ghost use Rattle.hfs_source.specs.Images.{OfEach};
+ghost use Rattle.hfs_source.specs.Images.{FailsWhere, OfEach};
 ghost use Rattle.hfs_commands.specs.OpenedFiles.{AreHeldOthers, AreOthersOf, HasSectorsOf, StaysHeld, failures_of, files_of, held_bytes, images_of, opened_layout, range_by, raw_range, stored_bytes, stored_failures, stored_images};
 
 use crate::fault::Fault;
@@ -109,6 +109,7 @@ fn others_of<F: Read + Seek>(file: &mut StoredFile<F>) -> Result<u64, SparseFaul
         (λ bytes. others ≡ other_count bytes)) }
     ensures held { OfEach (stored_images file.new) (stored_images file.old) }
     ensures stays { StaysHeld (stored_bytes file.old) (stored_bytes file.new) }
+    ensures later { FailsWhere (stored_failures file.new) (stored_failures file.old) }
 {
     match count_others(file) {
         Ok(others) => Ok(others),
@@ -128,10 +129,12 @@ impl<F: Read + Seek> OpenedFile<F> {
     }
 
     /// How many of its raw sectors have no user data; each sector is read. 0 if it has no raw sectors. Error: a read failed.
+    #[tactic(auto, using(crate::proofs::PartLemmas::data_later))]
     pub fn others(&mut self) -> Result<u64, SparseFault>
         ensures others { IfOk result (AreOthersOf self.new) }
         ensures known { IfOk result (AreHeldOthers self.old) }
         ensures layout { opened_layout self.new ≡ opened_layout self.old }
+        ensures later { FailsWhere (failures_of self.new) (failures_of self.old) }
         ensures files { OfEach (files_of self.new) (files_of self.old) }
         ensures held { OfEach (images_of self.new) (images_of self.old) }
         ensures stays { StaysHeld (held_bytes self.old) (held_bytes self.new) }

@@ -1,7 +1,7 @@
 //! What is said of a range in a file, besides where it lies.
 ghost use Rattle.std.specs.Prelude.{◌≡◌, IfOk};
-ghost use Rattle.hfs_commands.specs.OpenedFiles.{AreOthersOf, IsLaidOut, images_of, opened_layout};
-ghost use Rattle.hfs_source.specs.Images.{OfEach};
+ghost use Rattle.hfs_commands.specs.OpenedFiles.{AreOthersOf, IsLaidOut, failures_of, images_of, opened_layout};
+ghost use Rattle.hfs_source.specs.Images.{FailsWhere, OfEach};
 ghost use Rattle.hfs_source.specs.Ranges.{bytes_in, volume_name_in};
 ghost use Rattle.hfs_source.specs.Sums.{sum_told};
 
@@ -10,7 +10,7 @@ use crate::raw_file::{raw_data, stored_data};
 use hfs_source::{FoundRange, PlacedBytes, SparseFault, sum_told, volume_name};
 use std::io::{Read, Seek};
 
-/// The volume in a range, and the range's sum.
+/// The name of the volume in a range, and whether the range's sum is right.
 #[derive(Clone, Copy, Debug, PartialEq, Eq)]
 pub struct RangeFacts {
     /// The name field of the volume in the range, if there is one.
@@ -28,13 +28,15 @@ pub struct DescribedRange<F: Read + Seek> {
     pub others: u64,
 }
 
-/// The volume in a range of these bytes, and the range's sum. Errors: a read failed, memory was refused.
+/// The name of the volume in a range of these bytes, and whether the range's sum is right. Errors: a read failed, memory was
+/// refused.
 fn facts_of<S: PlacedBytes>(source: &mut S, found: &FoundRange) -> Result<RangeFacts, SparseFault>
     ensures name { IfOk result (λ facts. OfEach (S.Holds source.new)
         (λ file. facts.name ≡ volume_name_in found.now.range file)) }
     ensures sum { IfOk result (λ facts. OfEach (S.Holds source.new)
         (λ file. facts.sum ≡ sum_told found.now.container (bytes_in found.now.range file))) }
     ensures held { OfEach (S.Holds source.new) (S.Holds source.old) }
+    ensures later { FailsWhere (S.Fails source.new) (S.Fails source.old) }
 {
     let name = volume_name(source, found.range)?;
     let sum = sum_told(source, found)?;
@@ -48,7 +50,7 @@ struct ReadRange<F: Read + Seek> {
     facts: RangeFacts,
 }
 
-/// The volume in a range of a file, and the range's sum. Errors: a read failed, memory was refused.
+/// The same of a range of a file, which is handed back. Errors: a read failed, memory was refused.
 fn read_range<F: Read + Seek + Drop>(
     file: OpenedFile<F>,
     found: &FoundRange,
@@ -57,6 +59,7 @@ fn read_range<F: Read + Seek + Drop>(
     ensures layout { IfOk result (λ read. opened_layout read.file ≡ opened_layout file) }
     ensures laid_out { IfOk result (λ read. IsLaidOut read.file) }
     ensures held { IfOk result (λ read. OfEach (images_of read.file) (images_of file)) }
+    ensures later { IfOk result (λ read. FailsWhere (failures_of read.file) (failures_of file)) }
     ensures name { IfOk result (λ read. OfEach (images_of read.file)
         (λ bytes. read.facts.name ≡ volume_name_in found.now.range bytes)) }
     ensures sum { IfOk result (λ read. OfEach (images_of read.file)
@@ -87,6 +90,8 @@ pub fn describe_range<F: Read + Seek + Drop>(
     ensures layout { IfOk result (λ described. opened_layout described.file ≡ opened_layout file) }
     ensures laid_out { IfOk result (λ described. IsLaidOut described.file) }
     ensures held { IfOk result (λ described. OfEach (images_of described.file) (images_of file)) }
+    ensures later { IfOk result (λ described. FailsWhere (failures_of described.file)
+        (failures_of file)) }
     ensures name { IfOk result (λ described. OfEach (images_of described.file)
         (λ bytes. described.facts.name ≡ volume_name_in found.now.range bytes)) }
     ensures sum { IfOk result (λ described. OfEach (images_of described.file)

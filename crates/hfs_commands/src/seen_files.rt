@@ -39,7 +39,7 @@ fn range_of<F: Read + Seek>(part: Window<OpenedFile<F>>) -> RangeBytes<OpenedFil
     }
 }
 
-/// The blocks of a part of a file. There are none if the part begins past the file's end.
+/// The blocks of a part of a file. There are none if the part doesn't lie in the file.
 pub fn part_blocks<F: Read + Seek>(part: Window<OpenedFile<F>>) -> PartBlocks<F>
     ensures bytes { result.blocks.bytes.bytes ≡ part.source }
     ensures part { AreBlocksOf part result.blocks }

@@ -34,7 +34,7 @@ digest_told false image = None
 abbrev pub text_in : Option (Bor (List ℕ)) → Option (List ℕ)
 text_in text = option_map (λ (lent : Bor (List ℕ)). lent.now) text
 
--- this digest is told of an image, where one is asked for; where it was made of what was read beside, and the image has those bytes, it is the image's
+-- a digest is told of an image exactly where one is asked for; it is the image's, if the image has the bytes which were read beside, or nothing was
 pub record IsDigestBeside (Beside : List ℕ → Type 0) (is_digested : Bool) (image : List ℕ) (digest : Option (List ℕ)) : Type 0 where
   pub there : is_some digest ≡ is_digested
   pub is : Beside image → digest ≡ digest_told is_digested image
@@ -55,7 +55,7 @@ pub record TellsOf (image : List ℕ) (line : Option (List ℕ)) (words : TakeWo
 abbrev pub image_bag : List ℕ → BagFacts → List ShelfEntry
 image_bag image facts = bag_of (bag_items (entries_in image)) (record { items = table_text (told_rows (entries_in image)); remains = None }) facts
 
--- this holds of an image's bag, with such a digest
+-- this holds of an image's bag, with a digest that may be told of it where such bytes were read beside
 abbrev pub OfBag : Option (List ℕ) → TakeWords → (List ℕ → Type 0) → (List ShelfEntry → Type 0) → List ℕ → Type 0
 OfBag line words Beside Fact image = (digest : Option (List ℕ)) × IsDigestBeside Beside words.is_digested image digest
     × ((facts : BagFacts) → TellsOf image line words digest facts → Fact (image_bag image facts))

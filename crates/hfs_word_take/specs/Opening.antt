@@ -52,8 +52,8 @@ abbrev pub IsSumAt : (List ℕ → Type 0) → Option NumberedRange → Option B
 IsSumAt Holds None sum = sum ≡ None
 IsSumAt Holds (Some place) sum = OfEach Holds (λ file. sum ≡ sum_told place.found.container (bytes_in place.found.range file))
 
--- the range is what is asked for in each file that has the bytes which were read, and of each the line tells it with its number and the name of
--- its volume, and this of its sum
+-- the range is what is asked for in each file that has the bytes which were read, or the file as it is; of a range inside the line tells, of each such
+-- file, its number, the name of its volume, this of its sum, and how many raw sectors have no user data
 pub record TellsPart {F : Type 0} (part : Window (OpenedFile F)) (counted : Counted) (volume : Option ℕ) (line : Option (List ℕ)) (sum : Option Bool) : Type 0 where
   pub place : Option NumberedRange
   pub answers : IsAnswerTo volume (asked_at place)
@@ -72,7 +72,7 @@ abbrev pub IsSumIn : (List ℕ → Type 0) → Option NumberedRange → Option B
 IsSumIn Parts None sum = sum ≡ None
 IsSumIn Parts (Some place) sum = OfEach Parts (λ part. sum ≡ sum_told place.found.container part)
 
--- so the line tells the range, which has so many bytes, of a file as it was before these blocks of it were read: they are those of that range, each
+-- the line tells so the range, which has so many bytes, of a file as it was before these blocks of it were read: they are those of that range, each
 -- part of it that they may be is that range of such a file, and this is told of its sum
 pub record TellsPartIn {F : Type 0} (blocks : BlocksOf (RangeBytes (OpenedFile F))) (counted : Counted) (volume : Option ℕ) (len : ℕ) (line : Option (List ℕ)) (sum : Option Bool) : Type 0 where
   pub part : Window (OpenedFile F)
@@ -84,17 +84,18 @@ pub record TellsPartIn {F : Type 0} (blocks : BlocksOf (RangeBytes (OpenedFile F
 
 -- a range of the file that these blocks are read from
 abbrev pub window_at : {F : Type 0} → ByteRange → PartBlocks F → Window (OpenedFile F)
-window_at range part = record { source = part.blocks.bytes.bytes; range = range }
+window_at range blocks = record { source = blocks.blocks.bytes.bytes; range = range }
 
 -- these blocks of a file are that range of it, or there are none, where no file that has the bytes which were read has all of the range
 abbrev pub AreBlocksAt : {F : Type 0} → ByteRange → PartBlocks F → Type 0
-AreBlocksAt range part = AreBlocksOf (window_at range part) part.blocks
+AreBlocksAt range blocks = AreBlocksOf (window_at range blocks) blocks.blocks
 
--- these blocks of a file are the same range of it as this part is of its own, where its bytes are laid out as those are
+-- these blocks of a file are the same range of it as this part is of its own, or there are none where it doesn't lie in the file; and the user data is
+-- read of both, or of neither
 abbrev pub AreBlocksBeside : {F : Type 0} → Window (OpenedFile F) → PartBlocks F → Type 0
 AreBlocksBeside part again = AreBlocksAt part.range again × (opened_layout again.blocks.bytes.bytes ≡ opened_layout part.source)
 
--- so it does, and what was opened a second time is that range again
+-- the line tells so the range of which these are the blocks, and what was opened a second time are the blocks of the same range
 pub record HasOpenedPart {F : Type 0} (blocks : BlocksOf (RangeBytes (OpenedFile F))) (beside : Option (PartBlocks F)) (counted : Counted) (volume : Option ℕ) (len : ℕ) (line : Option (List ℕ)) (sum : Option Bool) : Type 0 where
   pub told : TellsPartIn blocks counted volume len line sum
   pub again : IfSome beside (AreBlocksBeside told.part)

@@ -185,9 +185,9 @@ pub struct GivenBag<S: PlacedBlocks> {
 }
 
 /// Gives a shelf the bag of an image: the items of its volume, and what these words say about it. The digest is made in a thread
-/// of its own if the image was opened a second time, and is that of each image that has what was read by either opening. At a
-/// fault, what was given is a beginning of the bag. All this holds for every image consistent with the bytes read. Faults: reading the image, those of the shelf, memory was
-/// refused; `TooLarge`.
+/// of its own if the image was opened a second time, and is that of each image that has what was read by both openings. At a
+/// fault, what was given is a beginning of the bag. All this holds for every image consistent with the bytes read. Faults:
+/// reading the image, those of the shelf, memory was refused; `TooLarge`.
 #[tactic(auto, using(crate::proofs::BagLemmas::nothing_given))]
 pub fn give_image<R: Threads, S: PlacedBlocks + Drop + Send, T: Shelf, W: Watch>(
     threads: &R,
