@@ -10,6 +10,11 @@ use Rattle.hfs_shared.specs.Tolds.{ToldState}
 use Rattle.hfs_shared.specs.declared.done.Done.{Done}
 use Rattle.hfs_runs.specs.Tellings.{AreWhole, SomeLate, OfEach, OfSome, AreToldWhole}
 
+-- what a test says
+pub when_true : {P : Type 0} (b : Bool) → b ≡ true → IsWhether b P → P
+when_true true is h = h
+when_true false is h = absurd (cc is)
+
 -- no told list covers more than was made until then
 abbrev pub AreWithin : List (Reply × ToldState) → Type 0
 AreWithin answers = All (λ answer. answer.1.shown ≤ answer.1.made) answers

@@ -1,7 +1,9 @@
 -- What a run over a copy of an image answers its workers is what the image answers.
 use Rattle.std.proofs.Common.{◌≡◌, inl, inr, ⊎_elim, ℕ, zero, suc, ◌+◌, ◌-◌, ◌<◌, Bool, true, false, cond, List, [], ◌∷◌, ◌++◌, map, filter, length, get_or, slice_get, Option, Some, refl, sym, ap, subst, ◌∙◌, arith, true≢false}
 use Rattle.std.proofs.lemmas.Bool.{or_left, or_right}
-use Rattle.std.proofs.lemmas.List.{length-map, get_or-map}
+use Rattle.std.proofs.lemmas.List.{append_assoc, length-map, get_or-map}
+use Rattle.std.proofs.lemmas.List.Elements.{All-take}
+use Rattle.std.proofs.Math.Seq.{take-append_seam}
 use Rattle.std.proofs.lemmas.Option.{get_or_from_slice_get, slice_get_within}
 use Rattle.logbook.specs.Pages.{Book}
 use Rattle.hfs_fields.specs.Members.{In}
@@ -29,14 +31,14 @@ use Rattle.hfs_scripts.specs.declared.lines.Caller.TheVariants.{Worker}
 use Rattle.hfs_scripts.specs.declared.lines.ScriptLine.{ScriptLine}
 use Rattle.hfs_scripts.specs.Callers.{calls_of, is_same}
 use Rattle.hfs_shared.specs.Desks.{PassState, entry_of, pass_state}
-use Rattle.hfs_shared.specs.Plans.{ArePlanned}
+use Rattle.hfs_shared.specs.Journals.{IsLegal}
+use Rattle.hfs_shared.specs.Plans.{Plan, ArePlanned, IsPlanned}
 use Rattle.hfs_shared.specs.Shareds.{IsReplyOf}
 use Rattle.hfs_shared.specs.Works.{IsWork, later}
 use Rattle.hfs_runs.specs.Naming.{line_calls, read_forks, uses_fork}
 use Rattle.hfs_runs.specs.Jobs.{plan_of}
 use Rattle.hfs_runs.specs.OnImage.{AreWorkersOnImage, IsForkReplyIn, IsLinesCopy, IsReplyIn, IsReplyOnImage, IsSomeReplyOnImage, SavedIsMade, WorkersReadTheImage}
 use Rattle.hfs_runs.proofs.Answered.{fork-outcome, other-outcome}
-use Rattle.hfs_fields.proofs.ElementLemmas.{each-left}
 use Rattle.hfs_fields.proofs.MemberLemmas.{in-at}
 
 -- ---- calls of lines
@@ -65,10 +67,15 @@ planned-of lines (e ∷ es) planned =
       planned-of lines es (λ k d lt. planned (suc k) d (omega (arith, lt))),
     )
 
--- the first of some entries with planned calls have such calls
-planned-front : (lines : List ScriptLine) (before behind : List Entry) → ArePlanned (plan_of lines) (before ++ behind) → AreOf (line_calls lines) before
-planned-front lines before behind planned =
-    each-left (λ (e : Entry). In e.call (line_calls lines)) before behind (planned-of lines (before ++ behind) planned)
+-- the first of some entries with planned calls have planned ones
+first-planned : (plan : Plan) (before behind : List Entry) → ArePlanned plan (before ++ behind) → ArePlanned plan before
+first-planned plan before behind planned =
+    subst (λ (es : List Entry). ArePlanned plan es) (take-append_seam before behind)
+    (All-take (λ (e : Entry). IsPlanned plan e.worker e.stamp e.call) (length before) (before ++ behind) planned)
+
+-- and the first of a legal journal are legal
+first-legal : (opening : Volume) (before behind : List Entry) → IsLegal opening (before ++ behind) → IsLegal opening before
+first-legal opening before behind legal es e rest is = legal es e (rest ++ behind) (ap (λ (l : List Entry). l ++ behind) is ∙ append_assoc es (e ∷ rest) behind)
 
 -- where one of the calls reads a fork, forks are read for the lines
 reads-of : (lines : List ScriptLine) (c : Call) → In c (line_calls lines) → reads_fork c ≡ true → read_forks lines ≡ true
@@ -161,14 +168,22 @@ module _ (lines : List ScriptLine) (copy image : List ℕ) (is : IsLinesCopy lin
         let mine = calls_of (Worker worker) lines in
         in-lines (Worker worker) lines (get_or mine k c) (in-at mine k c (omega (arith, below k lt, w.few)))
 
-    reply-at : (k : ℕ) (c : Call) (r : Reply) → k < length replies → IsSomeReplyOnImage copy image (get_or (calls_of (Worker worker) lines) k c) (get_or replies k r)
+    reply-at : (k : ℕ) (c : Call) (r : Reply) → k < length replies → IsSomeReplyOnImage lines copy image (get_or (calls_of (Worker worker) lines) k c) (get_or replies k r)
     reply-at k c r lt =
         let none : Reply × ToldState = (r, record { book = book; list = []; shown = 0; made = 0 }) in
         let made = w.each k c none (below k lt) in
         let is_it : (get_or told k none).0 ≡ get_or replies k r =
         sym (get_or-map (λ (answer : Reply × ToldState). answer.0) told k none r (below k lt)) ∙ ap (λ (rs : List Reply). get_or rs k r) same in
         let call = get_or (calls_of (Worker worker) lines) k c in
-        (made.0, on-image made.0 call (get_or replies k r) (call-there k c lt) (planned-front lines made.0 (entry_of (later (pass_state worker 1) k) call (get_or told k none).0 ∷ []) made.1.planned) (subst (λ (x : Reply). IsReplyOf copy (after (volume_of copy) made.0) call x) is_it made.1.reply))
+        let own = entry_of (later (pass_state worker 1) k) call (get_or told k none).0 ∷ [] in
+        let planned = first-planned (plan_of lines) made.0 own made.1.planned in
+        record {
+          before = made.0;
+          legal = first-legal (volume_of copy) made.0 own made.1.legal;
+          planned = planned;
+          is = on-image made.0 call (get_or replies k r) (call-there k c lt) (planned-of lines made.0 planned)
+              (subst (λ (x : Reply). IsReplyOf copy (after (volume_of copy) made.0) call x) is_it made.1.reply);
+        }
 
 -- a member of a list that isn't empty
 with-one : (dones : List Done) (P : Type 0) → 0 < length dones → (Done → P) → P
@@ -195,7 +210,7 @@ workers_read_the_image copy image lines volume text whole shown told is ran plac
                 s.whole,
                 on-image lines copy image is s.before (get_or (calls_of (Worker worker) lines) k call) (get_or replies k reply)
                     (call-there lines copy image is ran.book worker done.replies.items done.pass replies worked.0 worked.1.work k call lt)
-                    (planned-front lines s.before s.behind (subst (λ (es : List Entry). ArePlanned (plan_of lines) es) (sym s.whole) ran.planned)) s.reply_is,
+                    (planned-of lines s.before (first-planned (plan_of lines) s.before s.behind (subst (λ (es : List Entry). ArePlanned (plan_of lines) es) (sym s.whole) ran.planned))) s.reply_is,
               );
         }
 

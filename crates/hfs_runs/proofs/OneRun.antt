@@ -1,5 +1,5 @@
 -- A run, out of what each of its steps gave.
-use Rattle.std.proofs.Common.{◌≡◌, ◌∙◌, ℕ, ◌+◌, ◌<◌, Bool, true, false, List, [], map, length, get_or, sym, subst, arith, Ok}
+use Rattle.std.proofs.Common.{◌≡◌, ◌∙◌, ℕ, ◌+◌, ◌<◌, Bool, true, List, [], map, length, get_or, sym, subst, arith, Ok}
 use Rattle.std.specs.List.{All}
 use Rattle.logbook.specs.Pages.{Book}
 use Rattle.hfs_model.specs.declared.call.Call.{Call}
@@ -24,7 +24,7 @@ use Rattle.hfs_runs.specs.Asking.{AreNumbered}
 use Rattle.hfs_runs.specs.Jobs.{plan_of}
 use Rattle.hfs_runs.specs.Runs.{IsHandedOut, AreLinesRun, AreLinesRunUntold, IsScriptRun}
 use Rattle.hfs_runs.specs.Tellings.{AreWhole, OfEach, ToldReplies}
-use Rattle.hfs_runs.proofs.Late.{told_exactly}
+use Rattle.hfs_runs.proofs.Late.{told_exactly, when_true}
 use Rattle.hfs_runs.proofs.Whole.{answered}
 use Rattle.hfs_runs.proofs.Working.{AreJobs, AreDone, AreViewings, AreViewed, IsEnd, worked_at, made_at, dones_count, passes_count, stand_at, told_within, viewed_at}
 
@@ -41,10 +41,6 @@ begun book opening lines count seen lent many all same views calls =
       seen = λ i v below. views i v (known book []) (omega (arith, many)) ∙ all_at (λ k. k ≡ known book (opened opening)) seen i (known book []) all (omega (arith, many));
       calls_are = λ i v below. calls i v (omega (arith, many));
     }
-
-when_true : {P : Type 0} (b : Bool) → b ≡ true → IsWhether b P → P
-when_true true is h = h
-when_true false is h = absurd (cc is)
 
 pub ran : {V : Type 0} (items : V → List Call) (book : Book) (image : List ℕ) (lines : List ScriptLine) (volume : ImageValue) (text : List ℕ) (whole shown : Bool) (told : ToldReplies) (asked : List Asked) (passes : List PassState)
     (plan : Plan) (jobs : List (PassState × V)) (dones : List Done) (begun ended : List Viewing) → AreNumbered (map (λ (line : ScriptLine). line.caller) lines) asked → AreJobs items lines (workers lines) passes jobs
@@ -75,6 +71,7 @@ ran items book image lines volume text whole shown told asked passes plan jobs d
       made = λ place below. made_at items book image plan lines (workers lines) passes jobs dones out.journal begins done closed.all place below;
       others = subst (λ (n : ℕ). HasNoOthers n out.journal) (passes_count items book image plan lines passes jobs dones begins done) closed.others;
       planned = subst (λ (p : Plan). ArePlanned p out.journal) plan_is out.planned;
+      coded = out.coded;
       many = dones_count items book image plan lines passes jobs dones begins done;
       worked = λ place none below. worked_at items book image (plan_of lines) lines (workers lines) passes jobs dones begins planned place none below;
       viewed = λ place below. viewed_at book opening lines (viewers lines) begun ended views viewed place below;

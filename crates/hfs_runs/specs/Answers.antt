@@ -35,9 +35,13 @@ abbrev pub replies_of : List Done → List Viewing → Caller → List Reply
 replies_of dones viewings (Worker number) = worker_replies dones number
 replies_of dones viewings (Viewer number) = viewer_replies viewings number
 
+-- the replies that a worker was told, and none of a worker that there is not
+abbrev pub told_replies : List (Vec (Reply × ToldState) Global) → ℕ → List Reply
+told_replies told number = get_or (map (λ (got : Vec (Reply × ToldState) Global). map (λ reply. reply.0) got.items) told) (number - 1) []
+
 -- the same of replies that were kept
 abbrev pub kept_replies : Replies → Caller → List Reply
-kept_replies replies (Worker number) = get_or (map (λ (got : Vec (Reply × ToldState) Global). map (λ reply. reply.0) got.items) replies.workers.items) (number - 1) []
+kept_replies replies (Worker number) = told_replies replies.workers.items number
 kept_replies replies (Viewer number) = get_or (map (λ (got : Vec Reply Global). got.items) replies.viewers.items) (number - 1) []
 
 -- the reply to a call, where its caller got so many

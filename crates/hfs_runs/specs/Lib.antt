@@ -5,6 +5,7 @@ pub mod Tellings
 pub mod Standing
 pub mod Answers
 pub mod Pieces
+pub mod Codes
 pub mod Runs
 pub mod Jobs
 pub mod Naming

@@ -25,7 +25,10 @@ use Rattle.hfs_copy.specs.Working.{IsWorkingCopy}
 use Rattle.hfs_scripts.specs.declared.lines.Caller.TheVariants.{Worker}
 use Rattle.hfs_scripts.specs.declared.lines.ScriptLine.{ScriptLine}
 use Rattle.hfs_scripts.specs.Callers.{calls_of, workers}
+use Rattle.hfs_shared.specs.Journals.{IsLegal}
+use Rattle.hfs_shared.specs.Plans.{ArePlanned}
 use Rattle.hfs_shared.specs.Shareds.{IsReplyOf}
+use Rattle.hfs_runs.specs.Jobs.{plan_of}
 use Rattle.hfs_runs.specs.Runs.{AreLinesRun}
 use Rattle.hfs_runs.specs.Tellings.{ToldReplies}
 use Rattle.hfs_runs.specs.NamedForks.{HasNamedForks}
@@ -61,9 +64,12 @@ pub record IsReplyOnImage (copy image : List ℕ) (before : List Entry) (call : 
   pub on_copy : IsReplyOf copy (after (volume_of copy) before) call reply
   pub on_image : IsReplyIn on_copy.image (after (volume_of image) before) call reply
 
--- so is the reply after some entries
-abbrev pub IsSomeReplyOnImage : List ℕ → List ℕ → Call → Reply → Type 0
-IsSomeReplyOnImage copy image call reply = (before : List Entry) × IsReplyOnImage copy image before call reply
+-- so is the reply after some entries, which are legal over the copy's volume and have each the call that these lines plan
+pub record IsSomeReplyOnImage (lines : List ScriptLine) (copy image : List ℕ) (call : Call) (reply : Reply) : Type 0 where
+  pub before : List Entry
+  pub legal : IsLegal (volume_of copy) before
+  pub planned : ArePlanned (plan_of lines) before
+  pub is : IsReplyOnImage copy image before call reply
 
 -- so it is after the first entries of a journal
 abbrev pub StandsOnImage : List ℕ → List ℕ → List Entry → Call → Reply → Type 0
@@ -74,10 +80,10 @@ StandsOnImage copy image journal call reply =
 abbrev pub OfReplies : (Call → Reply → Type 0) → List Call → List Reply → Type 0
 OfReplies Fact calls replies = (k : ℕ) (call : Call) (reply : Reply) → k < length replies → Fact (get_or calls k call) (get_or replies k reply)
 
--- what workers were answered in a run over a copy is what the image answers: each reply after some entries, and where each change was
--- shown at once, after those that the run's journal begins with
+-- what workers were answered in a run over a copy is what the image answers: each reply after some legal entries with planned calls, and
+-- where each change was shown at once, after those that the run's journal begins with
 pub record AreWorkersOnImage (lines : List ScriptLine) (copy image : List ℕ) (shown : Bool) (journal : List Entry) (worker : ℕ) (replies : List Reply) : Type 0 where
-  pub each : OfReplies (IsSomeReplyOnImage copy image) (calls_of (Worker worker) lines) replies
+  pub each : OfReplies (IsSomeReplyOnImage lines copy image) (calls_of (Worker worker) lines) replies
   pub stand : shown ≡ true → OfReplies (StandsOnImage copy image journal) (calls_of (Worker worker) lines) replies
 
 -- so it is of all workers of a run

@@ -31,8 +31,9 @@ use Rattle.hfs_runs.specs.declared.numbering.Asked.{Asked}
 use Rattle.hfs_runs.specs.declared.running.Made.{Made}
 use Rattle.hfs_runs.specs.declared.running.Ran.{Ran}
 use Rattle.hfs_runs.specs.declared.running.RanInPieces.{RanInPieces}
-use Rattle.hfs_runs.specs.Answers.{AreAnswered, answers_text, is_whole, kept_replies}
+use Rattle.hfs_runs.specs.Answers.{AreAnswered, answers_text, is_whole, kept_replies, worker_replies}
 use Rattle.hfs_runs.specs.Asking.{AreNumbered}
+use Rattle.hfs_runs.specs.Codes.{AreCoded}
 use Rattle.hfs_runs.specs.Jobs.{has_viewer, plan_of}
 use Rattle.hfs_runs.specs.Pieces.{text_of_pieces}
 use Rattle.hfs_runs.specs.Standing.{AllStand}
@@ -82,8 +83,8 @@ IsWorked book image plan worker calls replies done =
 abbrev pub IsViewedFrom : Book → Volume → List Call → List Reply → Type 0
 IsViewedFrom book opening calls replies = (seen : Known) × AreReads calls (known book (opened opening)) replies seen
 
--- a shared volume of workers with this plan was closed with their passes when they had ended, and handed out; the viewer that it
--- was closed by had learned all that they were given
+-- a shared volume of workers with this plan was closed with their passes when they had ended, and handed out; each entry of its journal has the
+-- code of the reply that its worker got under its number, and the viewer that it was closed by had learned all that workers were given
 pub record IsHandedOut (base : List ℕ) (plan : Plan) (volume : ImageValue) (dones : List Done) : Type 0 where
   pub journal : List Entry
   pub shown : ℕ
@@ -91,12 +92,14 @@ pub record IsHandedOut (base : List ℕ) (plan : Plan) (volume : ImageValue) (do
   pub afterwards : Known
   pub closed : IsClosed base volume journal shown (map (λ (done : Done). done.pass) dones) before afterwards
   pub planned : ArePlanned plan journal
+  pub coded : AreCoded (worker_replies dones) journal
   pub learned : OfEach (AllBegin before.list) dones
 
 -- what a run of these lines on an image made: the volume afterwards, the text of the answers, whether all lines were answered, whether each
 -- change was shown at once, and what workers were told. The volume's image agrees with the given one, except for the blocks of forks that
 -- calls of a legal journal wrote, which made it one after the other, and its volume is the one after that journal, which has as many entries
--- of each worker as it got replies, and none of anybody else; each entry's call is that of one line, which its worker and number tell. Each change was shown at once exactly where each list that a worker was given
+-- of each worker as it got replies, and none of anybody else; each entry's call is that of one line, which its worker and number tell,
+-- and its code that of the reply to this line. Each change was shown at once exactly where each list that a worker was given
 -- covers all calls that were made until then, otherwise some list covers fewer; where it was, each reply to a worker is in that journal.
 pub record AreLinesRun (image : List ℕ) (lines : List ScriptLine) (volume : ImageValue) (text : List ℕ) (whole shown : Bool) (told : ToldReplies) : Type 0 where
   pub book : Book
@@ -116,6 +119,7 @@ pub record AreLinesRun (image : List ℕ) (lines : List ScriptLine) (volume : Im
   pub made : (place : ℕ) → place < workers lines → made_by (place + 1) journal ≡ length (replies (Worker (place + 1)))
   pub others : HasNoOthers (workers lines) journal
   pub planned : ArePlanned (plan_of lines) journal
+  pub coded : AreCoded (λ worker. replies (Worker worker)) journal
   pub many : length dones ≡ workers lines
   pub worked : (place : ℕ) (none : Done) → place < workers lines
       → IsWorked book image (plan_of lines) (place + 1) (calls_of (Worker (place + 1)) lines) (replies (Worker (place + 1))) (get_or dones place none)

@@ -5,6 +5,7 @@ ghost use Rattle.hfs_runs.specs.Answers.{kept_replies, replies_of};
 ghost use Rattle.hfs_runs.specs.Runs.{IsHandedOut};
 ghost use Rattle.hfs_runs.specs.Tellings.{AreOf, OfEach};
 
+use crate::codes::are_coded;
 use crate::replies::Replies;
 use crate::script_fault::ScriptFault;
 use crate::telling::learn_all;
@@ -59,7 +60,8 @@ fn part_viewings(
     Ok((viewers, replies))
 }
 
-// Closes the shared volume with a viewer, which learns all lists that workers were given; returns it with what was answered.
+// Closes the shared volume with a viewer, which learns all lists that workers were given; returns it with what was answered, of
+// which its journal has the codes.
 fn close_by<K: Session, R: Wait>(
     rt: &R,
     alloc: Global,
@@ -75,10 +77,14 @@ fn close_by<K: Session, R: Wait>(
 {
     learn_all(viewer, &dones);
     let (passes, replies) = part_dones(alloc, dones)?;
-    match shared.close(rt, passes, viewer) {
-        Ok(closed) => Ok((closed.volume, replies)),
-        Err(_refused) => Err(ScriptFault::Memory),
+    let Ok(closed) = shared.close(rt, passes, viewer) else {
+        return Err(ScriptFault::Memory);
+    };
+    // As little as passes that are refused, this can't come: both are of the same calls.
+    if !are_coded(&replies, &closed.journal) {
+        return Err(ScriptFault::Memory);
     }
+    Ok((closed.volume, replies))
 }
 
 /// Closes the shared volume with the first viewer, which learns all lists that workers were given; returns it with what all

@@ -1,12 +1,18 @@
-//! What the journal of a run has of the lines, and what a run over a copy of an image says about the image itself, each law as the
+//! What the journal of a run has of the lines and the replies, and what a run over a copy of an image says about the image itself, each law as the
 //! contract of a function that does nothing.
-ghost use Rattle.hfs_runs.specs.JournalLines.{JournalsHaveTheLines};
+ghost use Rattle.hfs_runs.specs.JournalLines.{JournalsHaveTheCodes, JournalsHaveTheLines};
 ghost use Rattle.hfs_runs.specs.OnImage.{NamedForksAreTheImages, SavedIsMade, WorkersReadTheImage};
 
 /// The calls of each worker in the journal of a run are the first of its lines, in their order, as many as it got replies. So the
 /// volume that is saved is what calls of the lines made, and no line's call was made twice.
 pub fn journals_have_the_lines()
     ensures { JournalsHaveTheLines }
+{}
+
+/// The codes of each worker's calls in the journal of a run are, in their order, those of the replies that it got. So each line that
+/// was answered with code 0 has an entry of its own that was accepted.
+pub fn journals_have_the_codes()
+    ensures { JournalsHaveTheCodes }
 {}
 
 /// What was read of an image for a script, with zeros elsewhere, has the image's working blocks, and the forks of all files that

@@ -9,6 +9,7 @@
 
 mod answer_text;
 mod closing;
+mod codes;
 mod extents;
 mod forks;
 mod given_back;
@@ -32,7 +33,8 @@ mod written_answers;
 
 pub use crate::forks::fetch_named_forks;
 pub use crate::laws::{
-    journals_have_the_lines, named_forks_are_the_images, saved_is_made, workers_read_the_image,
+    journals_have_the_codes, journals_have_the_lines, named_forks_are_the_images, saved_is_made,
+    workers_read_the_image,
 };
 pub use crate::needed_running::{NeededRan, run_needed_at};
 pub use hfs_shared::Gate;

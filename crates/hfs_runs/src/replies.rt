@@ -1,7 +1,7 @@
 //! What the callers of a script were answered.
 ghost use Rattle.std.specs.Prelude.{◌≡◌, option_copied, slice_get};
-ghost use Rattle.hfs_scripts.specs.declared.lines.Caller.TheVariants.{Worker, Viewer as AsViewer};
-ghost use Rattle.hfs_runs.specs.Answers.{kept_replies, reply_to};
+ghost use Rattle.hfs_scripts.specs.declared.lines.Caller.TheVariants.{Viewer as AsViewer};
+ghost use Rattle.hfs_runs.specs.Answers.{kept_replies, reply_to, told_replies};
 ghost use Rattle.hfs_runs.specs.Pieces.{bytes_in, value_bytes};
 
 use crate::numbering::Asked;
@@ -16,11 +16,11 @@ pub struct Replies {
     pub viewers: Vec<Vec<Reply>>,
 }
 
-// The reply at that place among a worker's.
-fn worker_reply(replies: &Replies, worker: u32, at: usize) -> Option<&Reply>
-    ensures { option_copied result ≡ slice_get (kept_replies replies.now (Worker worker)) at }
+/// The reply at that place among a worker's, in what all workers were told.
+pub(crate) fn worker_reply(told: &[Vec<(Reply, Told)>], worker: u32, at: usize) -> Option<&Reply>
+    ensures { option_copied result ≡ slice_get (told_replies told.now worker) at }
 {
-    let Some(got) = replies.workers.get(worker.saturating_sub(1) as usize) else {
+    let Some(got) = told.get(worker.saturating_sub(1) as usize) else {
         return None;
     };
     let Some((reply, _told)) = got.get(at) else {
@@ -58,7 +58,7 @@ impl Replies {
     {
         let at = asked.number.saturating_sub(1) as usize;
         match asked.caller {
-            Caller::Worker(number) => worker_reply(self, number, at),
+            Caller::Worker(number) => worker_reply(&self.workers, number, at),
             Caller::Viewer(number) => viewer_reply(self, number, at),
         }
     }
