@@ -1,5 +1,5 @@
-//! What the journal of a run has of the lines and the replies, and what a run over a copy of an image says about the image itself, each law as the
-//! contract of a function that does nothing.
+//! What the journal of a run has of the lines and the replies, and what a run over a copy of an image says about the image itself,
+//! each law as the contract of a function that does nothing.
 ghost use Rattle.hfs_runs.specs.JournalLines.{JournalsHaveTheCodes, JournalsHaveTheLines};
 ghost use Rattle.hfs_runs.specs.OnImage.{NamedForksAreTheImages, SavedIsMade, WorkersReadTheImage};
 
