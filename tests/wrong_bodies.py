@@ -163,6 +163,17 @@ def home_of(crate, kind, module):
     return module if module in homes or not homes else homes[0]
 
 
+def parts_of(text, head):
+    """The names in the arguments of the type that an impl of its own methods is of, if these are more than parameters of the impl: the
+    prover's name for such a type has them all, and the module is that of the impl."""
+    arguments = re.match(ANGLES, text[head.end():])
+    if not arguments:
+        return []
+    names = re.findall(r"(?<!['\w])\w+", arguments[0])
+    declared = re.findall(r'\w+', text[head.start():head.start(3)])
+    return names if set(names) - set(declared) else []
+
+
 @functools.lru_cache(None)
 def functions_in(crate, file):
     """The functions of a source file: path, name, and the places at which each begins and ends."""
@@ -178,8 +189,9 @@ def functions_in(crate, file):
             # An argument that is a parameter of the impl itself isn't in the name.
             if argument and re.search(rf'[<,]\s*{argument}\b', text[heads[-1].start():heads[-1].start(1)]):
                 argument = None
-            path = f'{kind}{trait or ""}{argument or ""}::{name}'
-            module = module if trait else home_of(crate, kind, module)
+            parts = [] if trait else parts_of(text, heads[-1])
+            path = f'{"+".join([kind, *parts])}{trait or ""}{argument or ""}::{name}'
+            module = module if trait or parts else home_of(crate, kind, module)
         closed = re.compile(rf'^{indent}}}', re.M).search(text, at.end())
         end = closed.end() if closed else len(text)
         found.append(('::'.join([crate, *module, path]), name, at.start(), end))
