@@ -54,6 +54,7 @@ HEADLINE = [
     'hfs_shared/no_free_nodes_are_told',
     'hfs_runs/a_call_of_its_own_behind_the_lines',
     'hfs_runs/another_volume_is_run',
+    'hfs_runs/codes_are_not_compared',
     'hfs_volume/sum_left_as_it_was',
     'hfs_word_take/nothing_written_and_told_as_made',
     'hfs_word_take/digest_of_another_range',
