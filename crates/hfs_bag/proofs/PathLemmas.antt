@@ -50,11 +50,11 @@ slash_there : (c : ℕ) (rest part : List ℕ) → IsAbove (c ∷ rest) → HasN
 slash_there c [] part above none = none.0 above
 slash_there c (d ∷ rest) part above none = slash_there d rest part above none.1
 
-abbrev first_of : List ℕ → ℕ
+abbrev pub first_of : List ℕ → ℕ
 first_of [] = 0
 first_of (c ∷ rest) = c
 
-abbrev behind_first : List ℕ → List ℕ
+abbrev pub behind_first : List ℕ → List ℕ
 behind_first [] = []
 behind_first (c ∷ rest) = rest
 

@@ -9,7 +9,7 @@ use Rattle.hfs_bag.specs.Laws.{AreParts, HasNo, IsInside, IsPart, folder_path}
 use Rattle.hfs_bag.specs.ShelfPaths.{path_within}
 use Rattle.hfs_bag.specs.Removals.{IsFolderOrBelow}
 use Rattle.hfs_bag.specs.Tries.{IsAround, path_below, place_at}
-use Rattle.hfs_bag.proofs.PathLemmas.{inside_top}
+use Rattle.hfs_bag.proofs.PathLemmas.{behind_first, first_of, inside_top}
 
 within_twice : (folder a b : List ℕ) → path_within (path_within folder a) b ≡ path_within folder (path_within a b)
 unfolding path_within
@@ -79,14 +79,6 @@ longer place name = omega (arith, length-append place (codes "/" ++ name), lengt
 has_slash : (front back : List ℕ) → HasNo 47 (front ++ 47 ∷ back) → ⊥
 has_slash [] back none = none.0 refl
 has_slash (c ∷ front) back none = has_slash front back none.1
-
-abbrev first_of : List ℕ → ℕ
-first_of [] = 0
-first_of (c ∷ rest) = c
-
-abbrev behind_first : List ℕ → List ℕ
-behind_first [] = []
-behind_first (c ∷ rest) = rest
 
 -- a text is cut at its last slash in one way
 same_front : (a b x y : List ℕ) → HasNo 47 x → HasNo 47 y → a ++ 47 ∷ x ≡ b ++ 47 ∷ y → a ≡ b

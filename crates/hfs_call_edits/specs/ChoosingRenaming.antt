@@ -56,7 +56,7 @@ renaming new_name r = record { id = item_id r.1; from = r.0; to = record { paren
 
 -- ---- the item that Rename chooses
 
--- Rename chooses the item, which has the name, whatever its case
+-- Rename chooses the item, which has the name, in whatever case its ASCII letters are
 pub record IsRenaming (old : Blocks) (dir : ℕ) (name new_name : List ℕ) (item : Rekeying) : Type 0 where
   pub choice : IsRenameChoice old dir name new_name item
   pub low : 2 ≤ item.from.parent
@@ -73,11 +73,11 @@ ChoosesRenaming old dir name new_name result = MatchResult result (λ item. IsRe
 
 -- ---- lack of nodes
 
--- the nodes that a new name may need: none where only the case of letters differs
+-- the nodes that a new name may need: none where only the case of ASCII letters differs
 abbrev pub nodes_for_name : List ℕ → List ℕ → ℕ → ℕ
 nodes_for_name name new_name depth = if same_name name new_name then 0 else one_record depth
 
--- if the new name differs in more than case, these nodes have room for one more record
+-- if the new name differs in more than the case of ASCII letters, these nodes have room for one more record
 abbrev pub HasRoomForName : List ℕ → List ℕ → Store → Type 0
 HasRoomForName name new_name nodes = same_name name new_name ≡ false → HasRoom nodes
 

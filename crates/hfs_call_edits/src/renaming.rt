@@ -22,7 +22,7 @@ impl<B: Blocks> Editing<'_, B> {
         choosing_renaming::item_to_rename(&self.nodes(), self.volume.mdb, dir, name, new_name)
     }
 
-    /// The refusal of a new name for lack of nodes. Changing only the case of a name needs none.
+    /// The refusal of a new name for lack of nodes. Changing only the case of ASCII letters needs none.
     fn lacks_for_name(&self, name: &[u8], new_name: &[u8]) -> Option<Refusal>
         ensures refusal { result ≡ lacking_for_name name.now new_name.now (B.blocks self.now) }
         ensures room { IfNone result (HasRoomToRename name.now new_name.now (B.blocks self.now)) }

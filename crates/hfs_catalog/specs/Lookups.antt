@@ -22,7 +22,7 @@ catalog_item r = record { key = r.0; body = record_of r.1 }
 abbrev pub is_child_named : ℕ → List ℕ → Record → Bool
 is_child_named dir name r = is_child_of dir r && same_name r.0.name name
 
--- the file or folder of that name, whatever its case, under this parent
+-- the file or folder of that name, in whatever case its ASCII letters are, under this parent
 abbrev pub child_named : Catalog → ℕ → List ℕ → Option Record
 child_named catalog dir name = find (is_child_named dir name) catalog
 
@@ -67,7 +67,7 @@ is_under dir (Some r) = r.0.parent == dir
 
 -- ---- words of the look-ups' contracts
 
--- the item of that name, whatever its case, under this parent
+-- the item of that name, in whatever case its ASCII letters are, under this parent
 abbrev pub item_named : Catalog → ℕ → List ℕ → Option CatalogItem
 item_named catalog dir name = option_map catalog_item (child_named catalog dir name)
 

@@ -29,7 +29,8 @@ fn named_at<N: Nodes>(walk: &Walk<'_, CatKey, N>, dir: u32, name: &Name) -> Opti
     }
 }
 
-/// The file or folder of that name, ignoring case, in a folder. None if the folder has none, or if there is no such folder.
+/// The file or folder of that name, ignoring the case of ASCII letters, in a folder. None if the folder has none, or if there
+/// is no such folder.
 ///
 /// Reads the header node and one node of each level, and takes no memory.
 pub fn lookup<N: Nodes>(nodes: &N, dir: u32, name: &Name) -> Option<CatalogItem>

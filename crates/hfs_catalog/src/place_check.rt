@@ -39,8 +39,9 @@ fn first_misplaced(alloc: Global, catalog: &IndexedCatalog<'_>) -> Result<Option
 /// parents does not reach the root; or a folder's without a thread; or a thread's that does not lead to its item. If there is
 /// none, the number of records, unless the keys of the index nodes are `in_order`. None if all are right.
 ///
-/// Keys rise by the parent's ID and then by name, ignoring case ("Inside Macintosh: Files", chapter 2, "Catalog file keys"). A
-/// thread is of its item's kind, and has its parent and, ignoring case, its name. A file need not have a thread.
+/// Keys rise by the parent's ID and then by name, ignoring the case of ASCII letters ("Inside Macintosh: Files", chapter 2,
+/// "Catalog file keys"). A thread is of its item's kind, and has its parent and, ignoring that case, its name. A file need not
+/// have a thread.
 ///
 /// Goes through the records a fixed number of times, and follows each part of a chain of parents at most twice. Takes memory for
 /// a set of threads and a set of chains. `Err` only when out of memory.

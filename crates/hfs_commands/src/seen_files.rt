@@ -12,15 +12,15 @@ use crate::opened_file::OpenedFile;
 use crate::unopened::{LeftFile, UnopenedFile};
 use crate::volume_files::open_part;
 use hfs_image::{SeenImage, Unopened, open_range};
-use hfs_source::{BlocksOf, RangeBytes, SeenBlocks, Window};
+use hfs_source::{BlocksOf, RangeBlocks, RangeBytes, SeenBlocks, Window};
 use std::io::{Read, Seek};
 use std::rt::Files;
 
 /// The blocks of a part of a file, known by what was read of them.
-pub type PartBlocks<F> = SeenBlocks<BlocksOf<RangeBytes<OpenedFile<F>>>>;
+pub type PartBlocks<F> = SeenBlocks<RangeBlocks<OpenedFile<F>>>;
 
 /// A sound volume in a part of a file, whose answers hold for every file consistent with the bytes read.
-pub type PartImage<F> = SeenImage<BlocksOf<RangeBytes<OpenedFile<F>>>>;
+pub type PartImage<F> = SeenImage<RangeBlocks<OpenedFile<F>>>;
 
 /// The part of a file, or an empty one if it doesn't lie in the file.
 fn range_of<F: Read + Seek>(part: Window<OpenedFile<F>>) -> RangeBytes<OpenedFile<F>>

@@ -50,7 +50,7 @@ all_parts =
 
 -- ---- what there is of them
 
--- how many tables and indexes have a name, in any case, and how many of them a text
+-- how many tables and indexes have a name, in whatever case its ASCII letters are, and how many of them a text
 unfoldable pub find_part_text : List ℕ
 find_part_text = codes "SELECT count(*), sum(sql = ?2) FROM sqlite_schema WHERE name = ?1 COLLATE NOCASE"
 

@@ -115,7 +115,7 @@ fn told_in(row: &Row) -> Result<Found, DatabaseFault>
     }
 }
 
-/// What exists with this name, in any case, compared to this text.
+/// What exists with this name, in whatever case its ASCII letters are, compared to this text.
 #[tactic(auto, unfolding(crate::specs::Tables::find_part_text))]
 fn find<S: Alter>(conn: &mut Connection<S>, name: &str, text: &str) -> Result<Found, DatabaseFault>
     ensures found { IfOk result (FindsPart (state S.Store conn.old) (state S.Store conn.new)

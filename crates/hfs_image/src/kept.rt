@@ -3,9 +3,8 @@ ghost use Rattle.std.specs.Prelude.{◌≡◌, List, ℕ, ⊤};
 ghost use Rattle.hfs_image.specs.Kept.{IsKept};
 ghost use Rattle.hfs_source.specs.Images.{FailsInRange, IsRangeOf};
 
-use hfs_source::{BlocksOf, PlacedBytes, RangeBytes, SeenBlocks};
+use hfs_source::{BlocksOf, PlacedBytes, RangeBlocks, RangeBytes, SeenBlocks, read_in_range};
 use std::io;
-use std::io::ErrorKind;
 use std::marker::{Brand, Model, PhantomData};
 
 /// Where a range lies, and the files that it may lie in, both picked for proofs only: those of a range before anything is read
@@ -47,7 +46,7 @@ impl<S: PlacedBytes, K: PickedRange> Model for KeptRange<S, K> {
 
 impl<S: PlacedBytes, K: PickedRange> KeptRange<S, K> {
     /// The blocks of a range, which is the picked one.
-    pub fn blocks(of: SeenBlocks<BlocksOf<RangeBytes<S>>>) -> SeenBlocks<BlocksOf<KeptRange<S, K>>>
+    pub fn blocks(of: SeenBlocks<RangeBlocks<S>>) -> SeenBlocks<BlocksOf<KeptRange<S, K>>>
         requires { IsKept S.Holds K.start K.len K.Holds of.blocks.bytes }
         ensures { result.blocks.bytes ≡ of.blocks.bytes }
     {
@@ -61,9 +60,7 @@ impl<S: PlacedBytes, K: PickedRange> KeptRange<S, K> {
     }
 
     /// The blocks of the range itself, which is the picked one still.
-    pub fn into_blocks(
-        kept: SeenBlocks<BlocksOf<KeptRange<S, K>>>,
-    ) -> SeenBlocks<BlocksOf<RangeBytes<S>>>
+    pub fn into_blocks(kept: SeenBlocks<BlocksOf<KeptRange<S, K>>>) -> SeenBlocks<RangeBlocks<S>>
         ensures range { result.blocks.bytes ≡ kept.blocks.bytes }
         ensures kept { IsKept S.Holds K.start K.len K.Holds result.blocks.bytes }
     {
@@ -84,13 +81,7 @@ impl<S: PlacedBytes, K: PickedRange> PlacedBytes for KeptRange<S, K> {
     }
 
     fn read_at(&mut self, place: u64, into: &mut [u8]) -> io::Result<()> {
-        if into.is_empty() {
-            return Ok(());
-        }
-        let len = self.range.len;
-        if len < place || len - place < into.len() as u64 {
-            return Err(io::Error::from(ErrorKind::UnexpectedEof));
-        }
-        self.range.bytes.read_at(self.range.start + place, into)
+        let (start, len) = (self.range.start, self.range.len);
+        read_in_range(&mut self.range.bytes, start, len, place, into)
     }
 }

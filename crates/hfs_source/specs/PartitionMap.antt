@@ -30,7 +30,7 @@ entry_at block file n = bytes_at (block * n) 64 file
 unfoldable pub entry_count : ℕ → ℕ → List ℕ → ℕ
 entry_count block len file = min 63 (min (len / block - 1) (number_at 4 4 (entry_at block file 1)))
 
--- Apple_HFS in any case, and a zero byte
+-- Apple_HFS, in whatever case its ASCII letters are, and a zero byte
 abbrev pub hfs_type : List ℕ
 hfs_type = 65 ∷ 112 ∷ 112 ∷ 108 ∷ 101 ∷ 95 ∷ 72 ∷ 70 ∷ 83 ∷ 0 ∷ []
 

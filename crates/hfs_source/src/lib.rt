@@ -68,7 +68,7 @@ pub use crate::memory::MemoryBytes;
 pub use crate::new_file::TrustedNewFile;
 pub use crate::new_file_writer::NewFileWriter;
 pub use crate::placed::PlacedBytes;
-pub use crate::range::RangeBytes;
+pub use crate::range::{RangeBlocks, RangeBytes, read_in_range};
 pub use crate::ranges::{ByteRange, Container, FoundRange, Layout};
 pub use crate::raw::layout_in;
 pub use crate::reader::PlacedReader;

@@ -78,7 +78,8 @@ fn entry_count<S: PlacedBytes>(source: &mut S, block: u64, len: u64) -> Result<u
     Ok(MOST_ENTRIES.min((blocks - 1).min(u64::from(u32_at(&first, 4)))))
 }
 
-/// Whether an entry is of a partition that holds an HFS volume, by its type up to the first zero byte, ignoring case.
+/// Whether an entry is of a partition that holds an HFS volume, by its type up to the first zero byte, ignoring the case of
+/// ASCII letters.
 #[tactic(auto, unfolding(crate::specs::PartitionMap::is_hfs_entry))]
 fn is_hfs_entry(entry: &[u8; 64]) -> bool
     ensures { result ≡ is_hfs_entry entry.now }

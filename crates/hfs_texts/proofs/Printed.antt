@@ -81,7 +81,7 @@ with-name names name (c ∷ more) h =
 
 -- ---- the names behind it
 
-abbrev behind : List (List ℕ) → List ℕ
+abbrev pub behind : List (List ℕ) → List ℕ
 behind names = flat_map (λ (name : List ℕ). codes ":" ++ plain_text name) names
 
 closes : (names : List (List ℕ)) (name : List ℕ) → length name ≤ 31 → closed (state names name) ≡ state (names ++ name ∷ []) []

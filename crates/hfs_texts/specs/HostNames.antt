@@ -26,7 +26,7 @@ abbrev pub ports : List (List ℕ)
 ports = codes "COM1" ∷ codes "COM2" ∷ codes "COM3" ∷ codes "COM4" ∷ codes "COM5" ∷ codes "COM6" ∷ codes "COM7" ∷ codes "COM8" ∷ codes "COM9"
     ∷ codes "LPT1" ∷ codes "LPT2" ∷ codes "LPT3" ∷ codes "LPT4" ∷ codes "LPT5" ∷ codes "LPT6" ∷ codes "LPT7" ∷ codes "LPT8" ∷ codes "LPT9" ∷ []
 
--- a name that is, up to its first point, a device's, in any case
+-- a name that is, up to its first point, a device's, in whatever case its ASCII letters are
 unfoldable pub is_device_name : List ℕ → Bool
 is_device_name name = let stem = before_first (λ c. c == 46) name in list_any (same_name stem) devices || list_any (same_name stem) ports
 

@@ -24,16 +24,16 @@ pub record AreHostNames (host_name : List ℕ → List ℕ) : Type 0 where
   pub one_name : (a b : List ℕ) → IsTrue (is_bytes a) → IsTrue (is_bytes b) → host_name a ≡ host_name b → a ≡ b
   pub safe : (a : List ℕ) → IsTrue (is_bytes a) → IsSafe (host_name a)
   pub short : (a : List ℕ) → IsTrue (is_bytes a) → length a ≤ 31 → length (host_name a) ≤ 93
-  -- names whose host names are the same except for the case of letters are the same in name order
+  -- names whose host names are the same except for the case of ASCII letters are the same in name order
   pub one_in_case : (a b : List ℕ) → IsTrue (is_bytes a) → IsTrue (is_bytes b) → folded (host_name a) ≡ folded (host_name b) → name_cmp a b ≡ Equal
-  -- and for an item's name no other letters have a case than those from a to z
+  -- and the host name of an item's name has ASCII characters alone, so no other letters that have a case
   pub ascii : (a : List ℕ) → IsTrue (is_item_name a) → (k : ℕ) → k < length (host_name a) → slice_index (host_name a) k < 128
 
 -- the laws of host paths
 pub record AreHostPaths (host_path : List (List ℕ) → List ℕ) : Type 0 where
   -- what leads to one host path are the same names
   pub one_path : (a b : List (List ℕ)) → IsTrue (list_all is_bytes a) → IsTrue (list_all is_bytes b) → host_path a ≡ host_path b → a ≡ b
-  -- and without regard to case names that are the same in name order, one by one
+  -- and what leads to one host path except for the case of ASCII letters are names that are the same in name order, one by one
   pub one_in_case : (a b : List (List ℕ)) → IsTrue (list_all is_bytes a) → IsTrue (list_all is_bytes b) → folded (host_path a) ≡ folded (host_path b)
       → map folded a ≡ map folded b
 

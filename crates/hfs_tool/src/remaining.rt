@@ -9,7 +9,7 @@ use hfs_commands::{
 };
 use hfs_console::tell_hint;
 use hfs_model::{Fork, Reply};
-use hfs_source::{Asked, BlocksOf, PlacedBlocks, RangeBytes, find_asked};
+use hfs_source::{Asked, PlacedBlocks, RangeBlocks, find_asked};
 use hfs_space::ForkKind;
 use hfs_word_rescue::{
     RefusedImage, Remains, RemainsTexts, RescueWords, ShownFork, look, remains_of,
@@ -18,7 +18,7 @@ use std::alloc::Global;
 use std::fs::File;
 
 /// The blocks of a part of a file.
-pub type Part = BlocksOf<RangeBytes<OpenedFile<File>>>;
+pub type Part = RangeBlocks<OpenedFile<File>>;
 
 /// The result of a look: a sound image, or a refused one.
 pub type Looked = Result<PartImage<File>, RefusedImage<Part>>;

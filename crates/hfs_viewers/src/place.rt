@@ -9,7 +9,7 @@ use hfs_fields::Name;
 use std::cmp::Ordering;
 
 /// The ID of an item's folder, and its name. Places are ordered by the ID and then by name order, so two are equal if the names
-/// are the same except for case.
+/// are the same except for the case of ASCII letters.
 #[derive(Clone, Copy)]
 pub struct Place {
     /// The ID of the folder.

@@ -10,11 +10,11 @@ ghost use Rattle.hfs_source.specs.Images.{HasLength, OfEach};
 ghost use Rattle.hfs_source.specs.Seen.{EachKnown};
 ghost use Rattle.hfs_word_rescue.specs.Faults.{IsUnheld};
 
-use crate::looking::{RangeBlocks, fault_of, look_range, rescued_image};
+use crate::looking::{fault_of, look_range, rescued_image};
 use hfs_check::MountFault;
 use hfs_commands::CheckAnswer;
 use hfs_remains_forks::{Finds, Unlooked};
-use hfs_source::{PlacedBlocks, PlacedBytes, SeenBlocks};
+use hfs_source::{PlacedBlocks, PlacedBytes, RangeBlocks, SeenBlocks};
 use std::alloc::Global;
 
 /// Why nothing is found of an image.

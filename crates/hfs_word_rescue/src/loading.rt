@@ -12,11 +12,10 @@ ghost use Rattle.hfs_word_take.specs.Opening.{AreBlocksAt, IsLineOf, TellsPart, 
 ghost use Rattle.hfs_word_rescue.specs.Faults.{HasFailedIn, IsUnfound, IsUnfoundOf, IsUnread, told_fault};
 
 use crate::image::{HoldFault, RescuedImage, Unfound};
-use crate::looking::RangeBlocks;
 use crate::words::RescueWords;
 use hfs_check::MountFault;
 use hfs_commands::{Counted, Fault, LeftFile, OpenedFile, PartBlocks, UnopenedFile, part_blocks};
-use hfs_source::{ByteRange, PlacedBlocks, PlacedBytes, SeenBlocks};
+use hfs_source::{ByteRange, PlacedBlocks, PlacedBytes, RangeBlocks, SeenBlocks};
 use hfs_word_take::{FoundPart, find_part};
 use std::alloc::Global;
 use std::io::{Read, Seek};

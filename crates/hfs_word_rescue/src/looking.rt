@@ -9,12 +9,9 @@ use crate::image::{HoldFault, RescuedImage, Unfound};
 use hfs_commands::report_answer;
 use hfs_image::{KeptRange, PickedRange};
 use hfs_remains_forks::{LookedImage, Unlooked, look_and_find};
-use hfs_source::{BlocksOf, PlacedBlocks, PlacedBytes, RangeBytes, SeenBlocks, SparseFault};
+use hfs_source::{PlacedBlocks, PlacedBytes, RangeBlocks, SeenBlocks, SparseFault};
 use std::alloc::Global;
 use std::marker::Brand;
-
-/// The blocks of a range of a file.
-pub(crate) type RangeBlocks<S> = BlocksOf<RangeBytes<S>>;
 
 /// The fault for blocks that weren't read.
 pub(crate) fn fault_of(fault: SparseFault) -> HoldFault

@@ -14,6 +14,7 @@ use Rattle.hfs_texts.specs.MacPaths.{mac_path}
 use Rattle.hfs_texts.specs.PlainTexts.{is_control, is_itself, plain_character, plain_text}
 use Rattle.hfs_texts.specs.declared.reading.Stage.TheVariants.{Character, Wrong}
 use Rattle.hfs_texts.specs.Paths.{Read, closed, names_read, path_names, read_byte, unread, with_character}
+use Rattle.hfs_texts.proofs.Printed.{behind}
 use Rattle.hfs_word_take.specs.Laws.{ArePathsPrintedBack}
 
 -- ---- bytes that print as themselves
@@ -39,9 +40,6 @@ name-more name b h =
     flat_map-append plain_character name (b ∷ []) ∙ ap (λ (t : List ℕ). flat_map plain_character name ++ (t ++ [])) (itself-prints b h)
 
 -- ---- the path of names of which the last one goes on
-
-abbrev behind : List (List ℕ) → List ℕ
-behind names = flat_map (λ (name : List ℕ). codes ":" ++ plain_text name) names
 
 path-name : (names : List (List ℕ)) (name : List ℕ) (b : ℕ) → is_itself b ≡ true
     → mac_path (names ++ (name ++ b ∷ []) ∷ []) ≡ mac_path (names ++ name ∷ []) ++ b ∷ []

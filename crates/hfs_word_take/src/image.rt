@@ -10,7 +10,7 @@ ghost use Rattle.hfs_source.specs.Images.{HasLength, OfEach};
 
 use hfs_check::Report;
 use hfs_image::{SeenImage, Unopened, open_range_reported};
-use hfs_source::{BlocksOf, PlacedBlocks, PlacedBytes, RangeBytes, SeenBlocks};
+use hfs_source::{PlacedBlocks, PlacedBytes, RangeBlocks, SeenBlocks};
 use std::alloc::Global;
 
 /// A sound image that was opened, and what is known of it before its forks are read.
@@ -29,15 +29,15 @@ pub struct TakenImage<S: PlacedBlocks> {
     ghost report_is: { OfEach (S.Holds opened) (λ image. report ≡ report_of image) } by { Prim.hlevel props },
 }
 
-impl<S: PlacedBytes + Drop> TakenImage<BlocksOf<RangeBytes<S>>> {
+impl<S: PlacedBytes + Drop> TakenImage<RangeBlocks<S>> {
     /// Reads the needed blocks of an image that is a range of a file, and makes all checks once. Errors, with the source handed
     /// back: a read failed, memory was refused, or the image is refused.
     pub fn open(
         alloc: Global,
-        source: SeenBlocks<BlocksOf<RangeBytes<S>>>,
-        beside: Option<SeenBlocks<BlocksOf<RangeBytes<S>>>>,
+        source: SeenBlocks<RangeBlocks<S>>,
+        beside: Option<SeenBlocks<RangeBlocks<S>>>,
         volume: Option<String>,
-    ) -> Result<TakenImage<BlocksOf<RangeBytes<S>>>, Unopened<BlocksOf<RangeBytes<S>>>>
+    ) -> Result<TakenImage<RangeBlocks<S>>, Unopened<RangeBlocks<S>>>
         ensures same { IfOk result (λ image. IsSameRange S.Holds source.blocks.bytes
             image.opened.bytes) }
         ensures beside { IfOk result (λ image. image.beside ≡ beside) }

@@ -22,9 +22,7 @@ use hfs_commands::{
     part_blocks,
 };
 use hfs_image::Unopened;
-use hfs_source::{
-    BlocksOf, ByteRange, PlacedBlocks, PlacedBytes, RangeBytes, SeenBlocks, SparseFault,
-};
+use hfs_source::{ByteRange, PlacedBlocks, PlacedBytes, RangeBlocks, SeenBlocks, SparseFault};
 use std::alloc::Global;
 use std::fs::{File, Metadata, OpenFile};
 use std::io::{Read, Seek};
@@ -305,9 +303,6 @@ fn of_unopened<'a, S: PlacedBlocks>(back: Unopened<S>, path: &'a str) -> Untaken
         source: back.source,
     }
 }
-
-/// The blocks of a range of a file, known by what is read of them.
-type RangeBlocks<S> = BlocksOf<RangeBytes<S>>;
 
 /// Opens what was found of an image, which has `len` bytes if it has no fault, and makes all checks. Faults, with what they hold
 /// of handed back, which is the same range: a read failed; the first of every image consistent with the bytes read; memory was

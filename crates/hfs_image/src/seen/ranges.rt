@@ -10,12 +10,9 @@ use super::{SeenImage, Unopened};
 use crate::kept::{KeptRange, PickedRange};
 use crate::opening::NeededFault;
 use hfs_check::Report;
-use hfs_source::{BlocksOf, PlacedBytes, RangeBytes, SeenBlocks};
+use hfs_source::{BlocksOf, PlacedBytes, RangeBlocks, SeenBlocks};
 use std::alloc::Global;
 use std::marker::Brand;
-
-/// The blocks of a range of a file.
-type RangeBlocks<S> = BlocksOf<RangeBytes<S>>;
 
 impl<S: PlacedBytes, K: PickedRange> SeenImage<BlocksOf<KeptRange<S, K>>> {
     /// The same image, read from the range itself, which is still the one that was picked.

@@ -26,8 +26,8 @@ impl Volume {
         queries::get_dir_info(&self.catalog_nodes(), dir)
     }
 
-    /// Answers with the folder's item of that name, ignoring case: -37 if the name isn't an item name, -120 if `dir` isn't the ID
-    /// of a folder, -43 if the folder has no item of that name. Takes no memory.
+    /// Answers with the folder's item of that name, ignoring the case of ASCII letters: -37 if the name isn't an item name, -120
+    /// if `dir` isn't the ID of a folder, -43 if the folder has no item of that name. Takes no memory.
     pub fn get_cat_info(&self, dir: u32, name: &[u8]) -> Reply
         ensures { result ≡ get_cat_info (entries_in self.now.current) dir name.now }
     {
