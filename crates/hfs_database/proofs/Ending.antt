@@ -9,6 +9,8 @@ use Rattle.sqlite.specs.Calls.{IsWrite}
 use Rattle.sqlite.specs.Effect.{is_query}
 use Rattle.sqlite.specs.State.{CommitsBy, Executes, ExecutesIn, HasCleanDisk, IsMisplaced, IsNoStatement, IsNotRun, IsRolledBack, KeepsCommit, State, Survives, is_pragma, shows_rows}
 use Rattle.sqlite.specs.declared.error.Error.{Error}
+use Rattle.sqlite.specs.declared.error.Error.TheVariants.{SqliteFailure}
+use Rattle.sqlite.specs.declared.error.ErrorCode.TheVariants.{SystemIoFailure}
 use Rattle.sqlite_resolve.specs.declared.compiled.Compiled.{Compiled}
 use Rattle.sqlite_resolve.specs.declared.error.CompileError.{CompileError}
 use Rattle.sqlite.specs.Store.{Ghosts}
@@ -17,6 +19,7 @@ use Rattle.sqlite.specs.View.{doubt}
 use Rattle.sqlite.proofs.Callers.{IsPlain, command_of, runs_as}
 use Rattle.sqlite.proofs.StateLemmas.{survives_weaker}
 use Rattle.sqlite_tied.specs.Compute.{everything}
+use Rattle.hfs_database.specs.Refusals.{IsNotRolledBack}
 use Rattle.hfs_database.specs.Transactions.{IsAsBefore, IsBegun, IsCommitted, IsSettled, IsUndone, KeepsFile}
 use Rattle.hfs_database.proofs.Keeping.{commit_rolled_back, keeps_itself, not_outside}
 
@@ -273,3 +276,11 @@ module _ {S : Type 0} (g : Ghosts S) (old new : Held S) (count : ℕ) where
 -- where nothing was done
 pub leaves_itself : {S : Type 0} (g : Ghosts S) (held : Held S) → Survives (state g held) (state g held) (λ db. db ≡ (state g held).now.trees)
 leaves_itself g held = survives_weaker (state g held) (state g held) (λ _. ⊥) (λ db. db ≡ (state g held).now.trees) (λ clean db never. absurd never) (keeps_itself g held).survives
+
+-- after a rollback a transaction is under way still
+pub still_begun : {S : Type 0} (g : Ghosts S) (old new : Held S) (before : Bool) → before ≡ not old.in_transaction → before ≡ false → false ≡ not new.in_transaction
+    → (count : ℕ) → (HasCleanDisk (state g new) → Executes (codes "ROLLBACK") [] (state g old) (state g new) (Ok count)) → IsNotRolledBack g old new
+still_begun g old new before was within still count ran =
+    (SqliteFailure SystemIoFailure, refl, λ clean.
+    let back = rolled_back g old new (Ok count) (sym was ∙ within) (ran clean) in
+    absurd (true≢false (sym (ap not back.autocommit) ∙ sym still)))

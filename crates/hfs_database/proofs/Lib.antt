@@ -3,6 +3,7 @@ pub mod TableLemmas
 pub mod Ending
 pub mod RowLemmas
 pub mod FaultLemmas
+pub mod RefusalLemmas
 mod Fields
 mod Names
 mod Objects

@@ -1,5 +1,5 @@
 -- Rows that are put one behind the other, in one transaction.
-use Rattle.std.proofs.Common.{◌≡◌, ◌∙◌, refl, sym, subst, true, false, Bool, List, [], ◌∷◌, ◌++◌, map, arith, true≢false}
+use Rattle.std.proofs.Common.{◌≡◌, ◌∙◌, Option, None, false, refl, sym, subst, List, [], ◌∷◌, ◌++◌, map, arith}
 use Rattle.std.proofs.Math.Logic.{∥∥₁_map}
 use Rattle.sqlite.specs.Held.{Held, state}
 use Rattle.sqlite.specs.State.{HasCleanDisk, Survives}
@@ -8,6 +8,7 @@ use Rattle.sqlite.proofs.StateLemmas.{survives_then, survives_weaker}
 use Rattle.hfs_database.specs.Taken.{TakenRow}
 use Rattle.hfs_database.specs.declared.fault.PutFault.{PutFault}
 use Rattle.hfs_database.specs.declared.fault.PutFault.TheVariants.{Database, Source}
+use Rattle.hfs_database.specs.declared.row_fault.TakerFault.{TakerFault}
 use Rattle.hfs_database.specs.declared.statements.LastRows.{LastRows}
 use Rattle.hfs_database.specs.Rows.{PutsRow}
 use Rattle.hfs_database.specs.Transactions.{EndsAtSource, HasPutSince, HoldsAll, IsAsBefore, IsBegun, IsCommitted, IsSettled, IsUndone, KeepsAtSource, KeepsFile, LeavesAllOrNone, LeavesAsBefore, LeavesFile, PutsAll, PutsAllInOne, PutsRows, no_rows}
@@ -34,8 +35,8 @@ pub puts_none : {S : Type 0} (g : Ghosts S) (start : Held S) (rows : List TakenR
 puts_none g start rows none = subst (λ (rows : List TakenRow). HasPutSince g start rows start no_rows) (sym none) (refl, refl)
 
 -- the taker was given all rows, and none before them
-pub puts_all : {S : Type 0} (g : Ghosts S) (Gives : List TakenRow → List TakenRow → Type 0) (start begun now : Held S) (before rows : List TakenRow) (last : LastRows) (failed : Bool)
-    → before ≡ [] → begun ≡ start → Gives before rows → failed ≡ false → ∥ (failed ≡ false → HasPutSince g begun rows now last) ∥₁ → PutsAll g (Gives []) start now
+pub puts_all : {S : Type 0} (g : Ghosts S) (Gives : List TakenRow → List TakenRow → Type 0) (start begun now : Held S) (before rows : List TakenRow) (last : LastRows) (failed : Option TakerFault)
+    → before ≡ [] → begun ≡ start → Gives before rows → failed ≡ None → ∥ (failed ≡ None → HasPutSince g begun rows now last) ∥₁ → PutsAll g (Gives []) start now
 puts_all g Gives start begun now before rows last failed none is gives fine put =
     ∥∥₁_map put (λ was. (rows, subst (λ (first : List TakenRow). Gives first rows) none gives, last, subst (λ (held : Held _). HasPutSince g held rows now last) is (was fine)))
 

@@ -40,11 +40,10 @@ opening_fault _ = CannotOpen obstacle.Unreadable
 abbrev pub writing_fault : Error → DatabaseFault
 writing_fault error = if is_memory error then NoMemory else CannotWrite
 
--- it is one of these, and not that the database can't be opened
-abbrev pub IsWritingFault : DatabaseFault → Type 0
-IsWritingFault (CannotOpen obstacle) = ⊥
-IsWritingFault CannotWrite = ⊤
-IsWritingFault NoMemory = ⊤
+-- the database's fault where a row isn't taken
+abbrev pub untaken_fault : TakerFault → DatabaseFault
+untaken_fault taker.CannotWrite = CannotWrite
+untaken_fault taker.NoMemory = NoMemory
 
 -- its fault where a row is taken
 abbrev pub taking_fault : Error → TakerFault

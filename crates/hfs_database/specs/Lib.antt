@@ -10,6 +10,7 @@ pub mod Comparing
 pub mod Asking
 pub mod Listing
 pub mod Transactions
+pub mod Refusals
 pub mod Tables
 pub mod FileNames
 pub mod Columns

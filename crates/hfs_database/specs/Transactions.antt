@@ -5,7 +5,6 @@ use Rattle.sqlite.specs.State.{HasCleanDisk, KeepsCommit, Shows, Survives}
 use Rattle.sqlite.specs.Store.{Ghosts}
 use Rattle.sqlite.specs.Tree.{Trees}
 use Rattle.sqlite.specs.View.{doubt}
-use Rattle.hfs_database.specs.Faults.{IsWritingFault}
 use Rattle.hfs_database.specs.Taken.{TakenRow}
 use Rattle.hfs_database.specs.declared.fault.PutFault.{PutFault}
 use Rattle.hfs_database.specs.declared.fault.PutFault.TheVariants.{Database, Source}
@@ -110,8 +109,3 @@ KeepsAtSource g start new (Database fault) = ⊤
 abbrev pub EndsAtSource : {S F : Type 0} → Held S → PutFault F → Type 0
 EndsAtSource new (Source fault) = new.in_transaction ≡ false
 EndsAtSource new (Database fault) = ⊤
-
--- where a source did not give all its rows, this is its fault; the database's is one of writing
-abbrev pub IsSourceFault : {F : Type 0} → (F → Type 0) → PutFault F → Type 0
-IsSourceFault Fails (Source fault) = Fails fault
-IsSourceFault Fails (Database fault) = IsWritingFault fault

@@ -1,7 +1,8 @@
 //! A collection that is open.
 ghost use Rattle.std.specs.Prelude.{[], IfErr, IfOk, OnErr, OnOk};
+ghost use Rattle.hfs_database.specs.Refusals.{FailsToPut, IsUnput};
 ghost use Rattle.hfs_database.specs.Tables.{HasTables, IsRefusedFor};
-ghost use Rattle.hfs_database.specs.Transactions.{EndsAtSource, IsSourceFault, KeepsAtSource, LeavesAllOrNone, LeavesAsBefore, PutsAllInOne};
+ghost use Rattle.hfs_database.specs.Transactions.{EndsAtSource, KeepsAtSource, LeavesAllOrNone, LeavesAsBefore, PutsAllInOne};
 
 use crate::RowSource;
 use crate::fault::{DatabaseFault, Obstacle, PutFault, opening_fault, writing_fault};
@@ -61,7 +62,9 @@ impl<S: Alter + Drop> Collection<S> {
     pub fn put<R: RowSource>(&mut self, source: &mut R) -> Result<R::Told, PutFault<R::Fault>>
         ensures put { OnOk result (PutsAllInOne S.Store (R.Gives source.old source.new []) self.old.conn self.new.conn) }
         ensures told { IfOk result (R.Tells source.old source.new) }
-        ensures fault { IfErr result (IsSourceFault (R.Fails source.old source.new)) }
+        ensures fault { IfErr result (IsUnput (R.Fails source.old source.new)
+            (FailsToPut S.Store (R.Begins source.old source.new []) (R.Gives source.old source.new [])
+            self.old.conn self.new.conn)) }
         ensures unread { IfErr result (KeepsAtSource S.Store self.old.conn self.new.conn) }
         ensures ended { IfErr result (EndsAtSource self.new.conn) }
         ensures back { OnErr result (LeavesAsBefore S.Store self.old.conn self.new.conn) }

@@ -45,6 +45,17 @@ pub enum PutFault<F> {
     Database(DatabaseFault),
 }
 
+impl From<TakerFault> for DatabaseFault {
+    ghost from_gives = { λ why fault. fault ≡ spec.untaken_fault why };
+
+    fn from(fault: TakerFault) -> DatabaseFault {
+        match fault {
+            TakerFault::CannotWrite => DatabaseFault::CannotWrite,
+            TakerFault::NoMemory => DatabaseFault::NoMemory,
+        }
+    }
+}
+
 /// Whether memory was refused.
 fn is_memory(error: &Error) -> bool
     ensures { result ≡ spec.is_memory error.now }
@@ -103,7 +114,6 @@ pub(crate) fn opening_fault(error: &Error) -> DatabaseFault
 pub(crate) fn writing_fault(error: &Error) -> DatabaseFault
     ensures tables { TellsNoTables result }
     ensures fault { result ≡ spec.writing_fault error.now }
-    ensures writing { spec.IsWritingFault result }
 {
     if is_memory(error) {
         DatabaseFault::NoMemory

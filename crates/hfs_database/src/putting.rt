@@ -2,8 +2,8 @@
 ghost use Rattle.std.specs.Prelude.{◌≡◌, false, [], IfErr, IfOk, OnErr, OnOk};
 ghost use Rattle.sqlite.specs.Held.{state};
 ghost use Rattle.sqlite.specs.State.{Survives};
-ghost use Rattle.hfs_database.specs.Faults.{IsWritingFault};
-ghost use Rattle.hfs_database.specs.Transactions.{EndsAtSource, IsAsBefore, IsBegun, IsCommitted, IsSettled, IsSourceFault, IsUndone, KeepsAtSource, KeepsFile, LeavesAllOrNone, LeavesAsBefore, PutsAllInOne};
+ghost use Rattle.hfs_database.specs.Refusals.{FailsToPut, IsNotRolledBack, IsUnbegun, IsUncommitted, IsUnput, IsUnwritten};
+ghost use Rattle.hfs_database.specs.Transactions.{EndsAtSource, IsAsBefore, IsBegun, IsCommitted, IsSettled, IsUndone, KeepsAtSource, KeepsFile, LeavesAllOrNone, LeavesAsBefore, PutsAllInOne};
 
 use crate::RowSource;
 use crate::fault::{DatabaseFault, PutFault, writing_fault};
@@ -18,7 +18,7 @@ fn begin<S: Alter>(conn: &mut Connection<S>) -> Result<(), DatabaseFault>
     ensures keeps { KeepsFile S.Store conn.old conn.new }
     ensures settled { OnOk result (IsSettled S.Store conn.old) }
     ensures back { OnErr result (IsAsBefore S.Store conn.old conn.new) }
-    ensures writing { IfErr result IsWritingFault }
+    ensures fails { IfErr result (IsUnwritten (IsUnbegun S.Store conn.old conn.new)) }
 {
     if !conn.is_autocommit() {
         return Err(DatabaseFault::CannotWrite);
@@ -36,7 +36,7 @@ fn commit<S: Alter>(conn: &mut Connection<S>) -> Result<(), DatabaseFault>
     ensures leaves { Survives (state S.Store conn.old) (state S.Store conn.new)
         (λ db. db ≡ (state S.Store conn.old).now.trees) }
     ensures undone { OnErr result (IsUndone S.Store conn.old conn.new) }
-    ensures writing { IfErr result IsWritingFault }
+    ensures fails { IfErr result (IsUnwritten (IsUncommitted S.Store conn.old conn.new)) }
 {
     if conn.is_autocommit() {
         return Err(DatabaseFault::CannotWrite);
@@ -54,7 +54,7 @@ fn undo<S: Alter>(conn: &mut Connection<S>) -> Result<(), DatabaseFault>
     ensures keeps { KeepsFile S.Store conn.old conn.new }
     ensures ended { OnOk result (conn.new.in_transaction ≡ false) }
     ensures undone { IsUndone S.Store conn.old conn.new }
-    ensures writing { IfErr result IsWritingFault }
+    ensures fails { IfErr result (IsUnwritten (IsNotRolledBack S.Store conn.old conn.new)) }
 {
     if conn.is_autocommit() {
         return Ok(());
@@ -77,7 +77,9 @@ pub(crate) fn put_all<S: Alter, R: RowSource>(
 ) -> Result<R::Told, PutFault<R::Fault>>
     ensures put { OnOk result (PutsAllInOne S.Store (R.Gives source.old source.new []) conn.old conn.new) }
     ensures told { IfOk result (R.Tells source.old source.new) }
-    ensures fault { IfErr result (IsSourceFault (R.Fails source.old source.new)) }
+    ensures fault { IfErr result (IsUnput (R.Fails source.old source.new)
+        (FailsToPut S.Store (R.Begins source.old source.new []) (R.Gives source.old source.new [])
+        conn.old conn.new)) }
     ensures unread { IfErr result (KeepsAtSource S.Store conn.old conn.new) }
     ensures ended { IfErr result (EndsAtSource conn.new) }
     ensures back { OnErr result (LeavesAsBefore S.Store conn.old conn.new) }

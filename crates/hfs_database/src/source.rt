@@ -15,6 +15,9 @@ pub trait RowSource {
 
     ghost Gives: { Self → Self → List TakenRow → List TakenRow → Type 0 };
 
+    /// How the list changes whether or not all are given.
+    ghost Begins: { Self → Self → List TakenRow → List TakenRow → Type 0 };
+
     ghost Tells: { Self → Self → Self.Told → Type 0 };
 
     /// Which fault may be returned.
@@ -23,6 +26,7 @@ pub trait RowSource {
     /// Gives a taker all rows, in order.
     fn give<T: RowTaker>(&mut self, taker: &mut T) -> Result<Self::Told, Self::Fault>
         ensures whole { OnOk result (Gives self.old self.new (T.given taker.old) (T.given taker.new)) }
+        ensures part { Begins self.old self.new (T.given taker.old) (T.given taker.new) }
         ensures told { IfOk result (Tells self.old self.new) }
         ensures fault { IfErr result (Fails self.old self.new) }
         ensures reference { T.reference taker.new ≡ T.reference taker.old }

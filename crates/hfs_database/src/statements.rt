@@ -1,10 +1,12 @@
 //! The statements that put a row into its table, within a transaction.
-ghost use Rattle.std.specs.Prelude.{◌≡◌, [], ◌∷◌, map, IfOk, OnOk};
+ghost use Rattle.std.specs.Prelude.{◌≡◌, ◌⊎◌, [], ◌∷◌, map, IfErr, IfOk, OnOk};
 ghost use Rattle.sqlite.specs.declared.types.Value.TheVariants.{Int};
 ghost use Rattle.sqlite.specs.Held.{state};
 ghost use Rattle.sqlite_value.specs.Order.{column};
-ghost use Rattle.sqlite.specs.Values.{bound};
+ghost use Rattle.sqlite.specs.Values.{IsInt, bound};
 ghost use Rattle.hfs_database.specs.Doing.{HasFound, HasReplaced, HasRunAll, HasShown};
+ghost use Rattle.hfs_database.specs.Faults.{IsUnreadable};
+ghost use Rattle.hfs_database.specs.Refusals.{FailsToAsk, FailsToShowNumber, FailsToShowRow, HasLargeNumber, IsUntaken, RefusesImage, RefusesRow};
 ghost use Rattle.hfs_database.specs.Rows.{PutsRow};
 ghost use Rattle.hfs_database.specs.StatementTexts.{drop_volumes_text, put_item_text, put_volume_text};
 ghost use Rattle.hfs_database.specs.Transactions.{KeepsFile};
@@ -35,6 +37,8 @@ fn shown_row<S: Alter>(
 ) -> Result<Row, TakerFault>
     ensures done { IfOk result (HasShown (state S.Store conn.old) (state S.Store conn.new)
         text.now (bound parameters.now)) }
+    ensures fails { IfErr result (IsUntaken (FailsToShowRow (state S.Store conn.old)
+        (state S.Store conn.new) text.now (bound parameters.now))) }
     ensures keeps { KeepsFile S.Store conn.old conn.new }
 {
     if conn.is_autocommit() {
@@ -55,6 +59,8 @@ fn run<S: Alter>(
 ) -> Result<(), TakerFault>
     ensures done { OnOk result (HasRunAll (state S.Store conn.old) (state S.Store conn.new)
         text.now (bound parameters.now)) }
+    ensures fails { IfErr result (IsUntaken (FailsToAsk (state S.Store conn.old)
+        (state S.Store conn.new) text.now (bound parameters.now))) }
     ensures keeps { KeepsFile S.Store conn.old conn.new }
 {
     if conn.is_autocommit() {
@@ -68,7 +74,8 @@ fn run<S: Alter>(
 
 /// The number that a row begins with.
 fn number_of(row: &Row) -> Result<i64, TakerFault>
-    ensures { IfOk result (λ number. column row.now 0 ≡ Int number) }
+    ensures number { IfOk result (λ number. column row.now 0 ≡ Int number) }
+    ensures unread { IfErr result (IsUntaken (IsUnreadable IsInt row.now 0)) }
 {
     match row.get(0) {
         Ok(number) => Ok(number),
@@ -85,6 +92,8 @@ fn put<S: Alter>(
 ) -> Result<i64, TakerFault>
     ensures done { IfOk result (HasFound (state S.Store conn.old) (state S.Store conn.new)
         text.now (bound parameters.now)) }
+    ensures fails { IfErr result (IsUntaken (FailsToShowNumber (state S.Store conn.old)
+        (state S.Store conn.new) text.now (bound parameters.now))) }
     ensures keeps { KeepsFile S.Store conn.old conn.new }
 {
     let row = shown_row(conn, text, parameters)?;
@@ -96,6 +105,8 @@ fn put<S: Alter>(
 fn drop_volumes<S: Alter>(conn: &mut Connection<S>, image: i64) -> Result<(), TakerFault>
     ensures done { OnOk result (HasRunAll (state S.Store conn.old) (state S.Store conn.new)
         drop_volumes_text (Int image ∷ [])) }
+    ensures fails { IfErr result (IsUntaken (FailsToAsk (state S.Store conn.old)
+        (state S.Store conn.new) drop_volumes_text (Int image ∷ []))) }
     ensures keeps { KeepsFile S.Store conn.old conn.new }
 {
     let parameters = [ValueRef::Int(image)];
@@ -115,6 +126,8 @@ fn replace_image<S: Alter>(
 ) -> Result<i64, TakerFault>
     ensures done { IfOk result (HasReplaced S.Store conn.old conn.new
         (map sql_value values.now)) }
+    ensures fails { IfErr result (IsUntaken (HasLargeNumber values.now
+        ⊎ RefusesImage S.Store (map sql_value values.now) conn.old conn.new)) }
     ensures keeps { KeepsFile S.Store conn.old conn.new }
 {
     let mut parameters = Vec::new(alloc);
@@ -139,6 +152,9 @@ fn put_volume<S: Alter>(
     ensures done { IfOk result (HasFound (state S.Store conn.old)
         (state S.Store conn.new) put_volume_text
         (Int image ∷ map sql_value values.now)) }
+    ensures fails { IfErr result (IsUntaken (HasLargeNumber values.now
+        ⊎ FailsToShowNumber (state S.Store conn.old) (state S.Store conn.new)
+        put_volume_text (Int image ∷ map sql_value values.now))) }
     ensures keeps { KeepsFile S.Store conn.old conn.new }
 {
     let parameters = parameters_under(alloc, image, values)?;
@@ -160,6 +176,9 @@ fn put_item<S: Alter>(
     ensures done { OnOk result (HasRunAll (state S.Store conn.old)
         (state S.Store conn.new) put_item_text
         (Int volume ∷ map sql_value values.now)) }
+    ensures fails { IfErr result (IsUntaken (HasLargeNumber values.now
+        ⊎ FailsToAsk (state S.Store conn.old) (state S.Store conn.new)
+        put_item_text (Int volume ∷ map sql_value values.now))) }
     ensures keeps { KeepsFile S.Store conn.old conn.new }
 {
     let parameters = parameters_under(alloc, volume, values)?;
@@ -181,6 +200,8 @@ pub(crate) fn put_row<S: Alter>(
 ) -> Result<(), TakerFault>
     ensures done { OnOk result (PutsRow S.Store table (map sql_value values.now) conn.old conn.new
         last.old last.new) }
+    ensures refused { IfErr result (IsUntaken (RefusesRow S.Store table values.now
+        conn.old conn.new last.old)) }
     ensures keeps { KeepsFile S.Store conn.old conn.new }
 {
     match table {

@@ -1,10 +1,12 @@
 //! The taker that is a database.
-ghost use Rattle.std.specs.Prelude.{◌≡◌, false, [], map, IfErr, IfOk, OnErr, OnOk};
+ghost use Rattle.std.specs.Prelude.{◌≡◌, [], map, IfErr, IfOk, None, OnErr, OnOk, Some};
 ghost use Rattle.sqlite.specs.Held.{Held};
 ghost use Rattle.hfs_database.specs.GivenRows.{with_given};
-ghost use Rattle.hfs_database.specs.Taken.{with_row};
+ghost use Rattle.hfs_database.specs.Taken.{MayEndWith, with_row};
+ghost use Rattle.hfs_database.specs.Refusals.{HasRefusedLast, IsUnput, IsUntaken, RefusesOne, RefusesRow};
 ghost use Rattle.hfs_database.specs.Rows.{PutsRow};
-ghost use Rattle.hfs_database.specs.Transactions.{HasPutSince, IsSourceFault, KeepsFile, LeavesFile, PutsAll};
+ghost use Rattle.hfs_database.specs.Transactions.{HasPutSince, KeepsFile, LeavesFile, PutsAll};
+ghost use Rattle.hfs_database.specs.declared.row_fault.TakerFault.TheVariants.{CannotWrite};
 ghost use Rattle.hfs_database.specs.Values.{sql_value};
 
 use crate::fault::{DatabaseFault, PutFault};
@@ -44,16 +46,19 @@ impl<S: Alter> History<S> {
 }
 
 /// A taker that puts the rows of images into a database, within a transaction; what it held about an image with the same path is
-/// removed. After a fault it takes no more. Nothing is in the file until the transaction is committed.
+/// removed. After a fault it takes no more, and answers with that fault. Nothing is in the file until the transaction is
+/// committed.
 pub(crate) struct DatabaseTaker<'t, S: Alter> {
     conn: &'t mut Connection<S>,
     history: &'t mut History<S>,
     alloc: Global,
     last: LastRows,
-    has_failed: bool,
+    failed: Option<TakerFault>,
     ghost keeps: { ∥ KeepsFile S.Store history.now.start.value conn.now ∥₁ },
-    ghost put: { ∥ (has_failed ≡ false → HasPutSince S.Store history.now.start.value
+    ghost put: { ∥ (failed ≡ None → HasPutSince S.Store history.now.start.value
         history.now.given.rows conn.now last) ∥₁ },
+    ghost refused: { ∥ (failed ≡ Some CannotWrite → HasRefusedLast S.Store
+        history.now.start.value history.now.given.rows conn.now) ∥₁ },
 }
 
 impl<'t, S: Alter> DatabaseTaker<'t, S> {
@@ -77,7 +82,7 @@ impl<'t, S: Alter> DatabaseTaker<'t, S> {
                 image: 0,
                 volume: 0,
             },
-            has_failed: false,
+            failed: None,
         }
     }
 }
@@ -94,25 +99,25 @@ impl<S: Alter> RowTaker for DatabaseTaker<'_, S> {
     fn take(&mut self, table: Table, values: &[RowValue]) -> Result<(), TakerFault>
         ensures whole { OnOk result (self.new.history.now.given.rows
             ≡ with_row self.old.history.now.given.rows table values.now) }
-        ensures kept { OnErr result (self.new.history.now.given.rows ≡ self.old.history.now.given.rows) }
+        ensures refused { OnErr result (MayEndWith self.old.history.now.given.rows table values.now
+            self.new.history.now.given.rows) }
         ensures reference { self.new.conn.ghost_name ≡ self.old.conn.ghost_name }
         ensures place { self.new.history.now.start.value ≡ self.old.history.now.start.value }
         ensures put { OnOk result (PutsRow S.Store table (map sql_value values.now)
             self.old.conn.now self.new.conn.now self.old.last self.new.last) }
     {
-        if self.has_failed {
-            return Err(TakerFault::CannotWrite);
+        if let Some(fault) = self.failed {
+            return Err(fault);
         }
-        self.has_failed = true;
-        put_row(self.alloc, self.conn, &mut self.last, table, values)?;
+        let taken = put_row(self.alloc, self.conn, &mut self.last, table, values);
         self.history.note(&GivenRow { table, values });
-        self.has_failed = false;
-        Ok(())
+        self.failed = taken.err();
+        taken
     }
 }
 
-/// Puts all rows of a source, one after the other, within the transaction. Faults: those of the source; `CannotWrite` if a row
-/// was not taken, and the source didn't report it.
+/// Puts all rows of a source, one after the other, within the transaction. Faults: that of a row that was not taken, whatever the
+/// source says of it; those of the source.
 pub(crate) fn put_rows<S: Alter, R: RowSource>(
     alloc: Global,
     conn: &mut Connection<S>,
@@ -120,7 +125,8 @@ pub(crate) fn put_rows<S: Alter, R: RowSource>(
 ) -> Result<R::Told, PutFault<R::Fault>>
     ensures put { OnOk result (PutsAll S.Store (R.Gives source.old source.new []) conn.old conn.new) }
     ensures told { IfOk result (R.Tells source.old source.new) }
-    ensures fault { IfErr result (IsSourceFault (R.Fails source.old source.new)) }
+    ensures fault { IfErr result (IsUnput (R.Fails source.old source.new)
+        (RefusesOne S.Store (R.Begins source.old source.new []) conn.old conn.new)) }
     ensures keeps { LeavesFile S.Store conn.old conn.new }
 {
     let mut history = History::of(conn);
@@ -131,11 +137,13 @@ pub(crate) fn put_rows<S: Alter, R: RowSource>(
         history: _,
         alloc: _,
         last: _,
-        has_failed,
+        failed,
     } = taker;
-    match given {
-        Ok(_) if has_failed => Err(PutFault::Database(DatabaseFault::CannotWrite)),
-        Ok(told) => Ok(told),
-        Err(fault) => Err(PutFault::Source(fault)),
+    match failed {
+        Some(fault) => Err(PutFault::Database(DatabaseFault::from(fault))),
+        None => match given {
+            Ok(told) => Ok(told),
+            Err(fault) => Err(PutFault::Source(fault)),
+        },
     }
 }

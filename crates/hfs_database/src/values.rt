@@ -1,8 +1,10 @@
 //! Values of a row as parameters of a statement.
-ghost use Rattle.std.specs.Prelude.{◌≡◌, [], map, ◌∷◌, ◌++◌, IfOk, OnOk};
+ghost use Rattle.std.specs.Prelude.{◌≡◌, ◌≤◌, ◌^◌, ℕ, [], map, ◌∷◌, ◌++◌, IfErr, IfOk, OnOk};
 ghost use Rattle.sqlite.specs.declared.types.Value.TheVariants.{Int};
 ghost use Rattle.sqlite.specs.Values.{bound, bound_value};
 ghost use Rattle.sqlite_value.specs.Value.{owned};
+ghost use Rattle.hfs_database.specs.declared.value.RowValue.TheVariants.{Number};
+ghost use Rattle.hfs_database.specs.Refusals.{HasLargeNumber, IsUntaken};
 ghost use Rattle.hfs_database.specs.Values.{sql_value};
 
 use crate::{RowValue, TakerFault};
@@ -11,7 +13,8 @@ use std::alloc::Global;
 
 /// A value as a parameter. Fault: `CannotWrite` for a number that no column of SQLite can hold.
 fn parameter(value: &RowValue) -> Result<ValueRef<'_>, TakerFault>
-    ensures { IfOk result (λ parameter. bound_value (owned parameter) ≡ sql_value value.now) }
+    ensures parameter { IfOk result (λ parameter. bound_value (owned parameter) ≡ sql_value value.now) }
+    ensures large { IfErr result (IsUntaken ((n : ℕ) × (value.now ≡ Number n) × (2 ^ 63 ≤ n))) }
 {
     match value {
         RowValue::Empty => Ok(ValueRef::Null),
@@ -28,8 +31,9 @@ pub(crate) fn push_parameters<'a>(
     parameters: &mut Vec<ValueRef<'a>>,
     values: &'a [RowValue],
 ) -> Result<(), TakerFault>
-    ensures { OnOk result (bound parameters.new.items ≡ bound parameters.old.items
+    ensures pushed { OnOk result (bound parameters.new.items ≡ bound parameters.old.items
         ++ map sql_value values.now) }
+    ensures large { IfErr result (IsUntaken (HasLargeNumber values.now)) }
 {
     for value in values {
         match parameters.push(parameter(value)?) {
@@ -46,7 +50,8 @@ pub(crate) fn parameters_under<'a>(
     owner: i64,
     values: &'a [RowValue],
 ) -> Result<Vec<ValueRef<'a>>, TakerFault>
-    ensures { IfOk result (λ parameters. bound parameters.items ≡ Int owner ∷ map sql_value values.now) }
+    ensures parameters { IfOk result (λ parameters. bound parameters.items ≡ Int owner ∷ map sql_value values.now) }
+    ensures large { IfErr result (IsUntaken (HasLargeNumber values.now)) }
 {
     let mut parameters = Vec::new(alloc);
     match parameters.push(ValueRef::Int(owner)) {
