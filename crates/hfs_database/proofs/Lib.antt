@@ -4,6 +4,7 @@ pub mod Ending
 pub mod RowLemmas
 pub mod FaultLemmas
 pub mod RefusalLemmas
+pub mod GivenLemmas
 mod Fields
 mod Names
 mod Objects

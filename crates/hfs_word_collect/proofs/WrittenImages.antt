@@ -3,7 +3,7 @@ use Rattle.std.proofs.Common.{◌≡◌, ◌∙◌, sym, ap, subst, ℕ, Bool, f
 use Rattle.std.proofs.Math.Logic.{∥∥₁_map}
 use Rattle.std.proofs.lemmas.Option.{none-some}
 use lib.Seq.{take-append_seam}
-use Rattle.std.specs.Prelude.{IfSome}
+use Rattle.std.specs.Prelude.{⊤, IfSome}
 use Rattle.std.specs.Io.KnownBytes.{Appends}
 use Rattle.hfs_database.specs.Taken.{TakenRow, IsBeginning}
 use Rattle.hfs_word_collect.specs.declared.fault.CollectFault.{CollectFault}
@@ -14,7 +14,7 @@ use Rattle.hfs_database.specs.RowTexts.{image_text}
 use Rattle.hfs_database.specs.UnderWay.{WritesFront}
 use Rattle.hfs_word_collect.specs.declared.collect_fault.RunFault.{RunFault}
 use Rattle.hfs_word_collect.specs.declared.collect_fault.RunFault.TheVariants as run
-use Rattle.hfs_database.specs.Faults.{IsWritingFault}
+use Rattle.hfs_database.specs.Refusals as put
 use Rattle.hfs_database.specs.declared.fault.DatabaseFault.{DatabaseFault}
 use Rattle.hfs_database.specs.declared.fault.DatabaseFault.TheVariants as database
 use Rattle.hfs_database.specs.declared.row_fault.TakerFault.{TakerFault}
@@ -27,13 +27,6 @@ pub unread_by : (Unread : Type 0) (fault : CollectFault) (told : Option RunFault
 unread_by Unread ReadFailed told is none so = so
 unread_by Unread CannotWrite told is none so = absurd (none-some run.CannotWrite (sym none ∙ is))
 unread_by Unread NoMemory told is none so = absurd (none-some run.NoMemory (sym none ∙ is))
-
--- of the two things that are so then
-pub unread_first : (P Q : Type 0) (fault : CollectFault) (told : Option RunFault) → told ≡ image_fault fault → told ≡ None → IsFaultOf (P × Q) fault → P
-unread_first P Q fault told is none so = (unread_by (P × Q) fault told is none so).0
-
-pub unread_second : (P Q : Type 0) (fault : CollectFault) (told : Option RunFault) → told ≡ image_fault fault → told ≡ None → IsFaultOf (P × Q) fault → Q
-unread_second P Q fault told is none so = (unread_by (P × Q) fault told is none so).1
 
 -- bytes that went out, or a beginning of them
 either_front : {E : Type 0} (old new : Option (List ℕ)) (text : List ℕ) (r : Result (Unit {0}) E) → OnOk r (Appends old new text) → OnErr r (WritesFront old new text)
@@ -59,18 +52,23 @@ module _ (start now mid : Option (List ℕ)) (form went : Form) (given all : Lis
 pub all_begin : (given all : List TakenRow) → given ≡ all → IsBeginning given all
 all_begin given all gave = record { rest = []; all_is = append-nil given ∙ gave }
 
+-- whether or not all rows were given, what was given begins them
+pub either_begins : {X E : Type 0} (Has : Type 0) (given all : List TakenRow) (r : Result X E) → OnOk r (Has → given ≡ all) → OnErr r (Has → IsBeginning given all) → Has → IsBeginning given all
+either_begins Has given all (Ok x) whole part has = all_begin given all (whole has)
+either_begins Has given all (Err e) whole part has = part has
+
 -- ---- the faults of a run that goes on no more
 
-pub unwritten_database : (why : DatabaseFault) (found : RunFault) → found ≡ database_fault why → IsWritingFault why → IsUnwritten found
-unwritten_database (database.CannotOpen obstacle) found same never = absurd never
-unwritten_database database.CannotWrite found same is = subst IsUnwritten (sym same) tt
-unwritten_database database.NoMemory found same is = subst IsUnwritten (sym same) tt
+pub unwritten_database : (Why : Type 0) (fault : DatabaseFault) (found : RunFault) → found ≡ database_fault fault → put.IsUnwritten Why fault → IsUnwritten Why found
+unwritten_database Why (database.CannotOpen obstacle) found same never = absurd never
+unwritten_database Why database.CannotWrite found same is = subst (IsUnwritten Why) (sym same) is
+unwritten_database Why database.NoMemory found same is = subst (IsUnwritten Why) (sym same) tt
 
-pub unwritten_taker : (why : TakerFault) (found : RunFault) → found ≡ taker_fault why → IsUnwritten found
-unwritten_taker taker.CannotWrite found same = subst IsUnwritten (sym same) tt
-unwritten_taker taker.NoMemory found same = subst IsUnwritten (sym same) tt
+pub unwritten_taker : (why : TakerFault) (found : RunFault) → found ≡ taker_fault why → IsUnwritten ⊤ found
+unwritten_taker taker.CannotWrite found same = subst (IsUnwritten ⊤) (sym same) tt
+unwritten_taker taker.NoMemory found same = subst (IsUnwritten ⊤) (sym same) tt
 
-pub unwritten_image : (fault : CollectFault) (told : Option RunFault) (found : RunFault) → told ≡ image_fault fault → told ≡ Some found → IsUnwritten found
+pub unwritten_image : (fault : CollectFault) (told : Option RunFault) (found : RunFault) → told ≡ image_fault fault → told ≡ Some found → IsUnwritten ⊤ found
 unwritten_image ReadFailed told found is some = absurd (none-some found (sym is ∙ some))
-unwritten_image CannotWrite told found is some = subst (λ (o : Option RunFault). IfSome o IsUnwritten) (sym is ∙ some) tt
-unwritten_image NoMemory told found is some = subst (λ (o : Option RunFault). IfSome o IsUnwritten) (sym is ∙ some) tt
+unwritten_image CannotWrite told found is some = subst (λ (o : Option RunFault). IfSome o (IsUnwritten ⊤)) (sym is ∙ some) tt
+unwritten_image NoMemory told found is some = subst (λ (o : Option RunFault). IfSome o (IsUnwritten ⊤)) (sym is ∙ some) tt

@@ -9,11 +9,11 @@ use Rattle.hfs_word_collect.specs.declared.fault.CollectFault.TheVariants as col
 use Rattle.hfs_word_collect.specs.declared.collect_fault.RunFault.{RunFault}
 use Rattle.hfs_word_collect.specs.declared.collect_fault.RunFault.TheVariants as run
 
--- something can't be written, or memory is refused; the database was opened
-abbrev pub IsUnwritten : RunFault → Type 0
-IsUnwritten (run.CannotOpen obstacle) = ⊥
-IsUnwritten run.CannotWrite = ⊤
-IsUnwritten run.NoMemory = ⊤
+-- something can't be written, and this is why, or memory is refused; the database was opened
+abbrev pub IsUnwritten : Type 0 → RunFault → Type 0
+IsUnwritten Why (run.CannotOpen obstacle) = ⊥
+IsUnwritten Why run.CannotWrite = Why
+IsUnwritten Why run.NoMemory = ⊤
 
 -- where only the image can't be read, the run goes on
 abbrev pub image_fault : CollectFault → Option RunFault

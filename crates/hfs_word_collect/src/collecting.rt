@@ -5,7 +5,9 @@ ghost use Rattle.hfs_word_collect.specs.Counts.{image_counts};
 ghost use Rattle.hfs_word_collect.specs.Images.{image_rows};
 ghost use Rattle.hfs_word_collect.specs.Faults.{IsFaultOf};
 ghost use Rattle.hfs_word_collect.specs.Answers.{IsUnwritten};
-ghost use Rattle.hfs_word_collect.specs.Collecting.{AreRowsOf};
+ghost use Rattle.hfs_word_collect.specs.Collecting.{AreFirstRowsOf, AreRowsOf};
+ghost use Rattle.hfs_database.specs.Refusals.{FailsToPut};
+ghost use Rattle.hfs_database.specs.Taken.{IsBeginning};
 ghost use Rattle.hfs_database.specs.Transactions.{LeavesAllOrNone, LeavesAsBefore, LeavesFile, PutsAllInOne};
 
 use crate::collect_fault::RunFault;
@@ -50,12 +52,15 @@ impl<S: PlacedBytes + Drop, K: PickedImage, F: ImageFile<S, K>> RowSource
     ghost Gives = { λ old new before after. F.Holds new.file K.image
         → after ≡ before ++ image_rows old.facts.now K.image };
 
+    ghost Begins = { λ old new before after. F.Holds new.file K.image
+        → IsBeginning after (before ++ image_rows old.facts.now K.image) };
+
     ghost Tells = { λ old new counts. F.Holds new.file K.image → counts ≡ image_counts K.image };
 
     ghost Fails = { λ old new. IsFaultOf (F.IsUnread new.file
         × SomeFailOf (F.Holds new.file K.image) (length K.image) (F.Fails old.file)) };
 
-    #[tactic(auto, using(crate::proofs::FailingReads::both_told))]
+    #[tactic(auto, using(crate::proofs::FailingReads::both_told, crate::proofs::WrittenImages::either_begins))]
     fn give<T: RowTaker>(&mut self, taker: &mut T) -> Result<ImageCounts, CollectFault> {
         give_image::<S, K, F, T>(self.alloc, taker, &mut self.file, self.facts)
     }
@@ -64,8 +69,8 @@ impl<S: PlacedBytes + Drop, K: PickedImage, F: ImageFile<S, K>> RowSource
 /// Puts the rows of an image into the database, in place of those that it had for the same path, and returns how much the image
 /// holds. None if it can't be opened or not be read as far as needed: then nothing has changed, and no transaction is open. At a
 /// fault, the open database shows what it showed before; the file has all rows, or nothing in it has changed. Faults:
-/// `CannotWrite`, `NoMemory`.
-#[tactic(auto, using(crate::proofs::WrittenImages::unread_first, crate::proofs::WrittenImages::unread_second, crate::proofs::WrittenImages::unwritten_database, crate::proofs::WrittenImages::unwritten_image))]
+/// `CannotWrite` if the database doesn't begin a transaction, take a row of the image, commit or roll back; `NoMemory`.
+#[tactic(auto, using(crate::proofs::WrittenImages::unwritten_database))]
 pub fn collect_image<D: Alter + Drop, S: PlacedBytes + Drop, K: PickedImage, F: ImageFile<S, K>>(
     collection: &mut Collection<D>,
     rows: &mut ImageRows<'_, S, K, F>,
@@ -86,7 +91,10 @@ pub fn collect_image<D: Alter + Drop, S: PlacedBytes + Drop, K: PickedImage, F: 
         (LeavesAsBefore D.Store collection.old.conn collection.new.conn)) }
     ensures undone { OnErr result
         (LeavesAsBefore D.Store collection.old.conn collection.new.conn) }
-    ensures fault { IfErr result IsUnwritten }
+    ensures fault { IfErr result (IsUnwritten (FailsToPut D.Store
+        (AreFirstRowsOf (F.Holds rows.new.file) K.image rows.old.facts.now)
+        (AreRowsOf (F.Holds rows.new.file) K.image rows.old.facts.now)
+        collection.old.conn collection.new.conn)) }
     ensures all_or_none { LeavesAllOrNone D.Store
         (AreRowsOf (F.Holds rows.new.file) K.image rows.old.facts.now)
         collection.old.conn collection.new.conn }
@@ -94,9 +102,8 @@ pub fn collect_image<D: Alter + Drop, S: PlacedBytes + Drop, K: PickedImage, F: 
     match collection.put(rows) {
         Ok(counts) => Ok(Some(counts)),
         Err(PutFault::Database(fault)) => Err(RunFault::from(fault)),
-        Err(PutFault::Source(fault)) => match RunFault::of_image(fault) {
-            Some(fault) => Err(fault),
-            None => Ok(None),
-        },
+        Err(PutFault::Source(CollectFault::ReadFailed)) => Ok(None),
+        // No row was refused, so a lack of memory is left.
+        Err(PutFault::Source(CollectFault::CannotWrite | CollectFault::NoMemory)) => Err(RunFault::NoMemory),
     }
 }

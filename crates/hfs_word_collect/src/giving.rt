@@ -1,10 +1,10 @@
 //! The rows of a volume's items, one after the other.
-ghost use Rattle.std.specs.Prelude.{◌≡◌, ◌+◌, ◌++◌, [], false, IfErr, IfOk, IfSome, OnErr, OnOk};
+ghost use Rattle.std.specs.Prelude.{◌≡◌, ◌+◌, ◌++◌, [], ◌∷◌, false, IfErr, IfOk, IfSome, OnErr, OnOk};
 ghost use Rattle.hfs_model.specs.Children.{entries_of};
 ghost use Rattle.hfs_check.specs.VolumeOf.{volume_of};
 ghost use Rattle.hfs_source.specs.Images.{FailsWhere, OfEach};
 ghost use Rattle.hfs_database.specs.Taken.{IsBeginning};
-ghost use Rattle.hfs_word_collect.specs.Items.{item_rows, item_rows_from};
+ghost use Rattle.hfs_word_collect.specs.Items.{item_row, item_rows, item_rows_from};
 ghost use Rattle.hfs_items.specs.ToldRows.{told_rows};
 ghost use Rattle.hfs_word_collect.specs.Counts.{file_number, file_total};
 ghost use Rattle.hfs_bag.specs.Failing.{SomeFail};
@@ -53,7 +53,7 @@ impl ItemCounts {
 }
 
 /// Gives the row of the item that these names lead to.
-#[tactic(auto, using(crate::proofs::FailingReads::read_handed_on, crate::proofs::FailingReads::fault_by_memory, crate::proofs::FailingReads::fault_by_taker))]
+#[tactic(auto, using(hfs_database::proofs::GivenLemmas::begins_itself, crate::proofs::FailingReads::read_handed_on, crate::proofs::FailingReads::fault_by_memory, crate::proofs::FailingReads::fault_by_taker))]
 fn give_item<S: PlacedBlocks + Drop, T: RowTaker>(
     alloc: Global,
     taker: &mut T,
@@ -65,7 +65,9 @@ fn give_item<S: PlacedBlocks + Drop, T: RowTaker>(
 ) -> Result<(), CollectFault>
     ensures whole { OnOk result (OfEach (S.Holds image.new) (GivesItem taken number
         (told_row names.now info.now) (T.given taker.old) (T.given taker.new))) }
-    ensures part { OnErr result (T.given taker.new ≡ T.given taker.old) }
+    ensures part { OnErr result (OfEach (S.Holds image.new) (λ bytes. IsBeginning (T.given taker.new)
+        (T.given taker.old ++ item_row taken (entries_of (volume_of bytes)) number
+        (told_row names.now info.now) ∷ []))) }
     ensures narrows { OfEach (S.Holds image.new) (S.Holds image.old) }
     ensures failed { IfErr result (IsFaultOf (SomeFail (S.Holds image.new) (S.Fails image.old))) }
     ensures later { FailsWhere (S.Fails image.new) (S.Fails image.old) }
@@ -79,7 +81,7 @@ fn give_item<S: PlacedBlocks + Drop, T: RowTaker>(
 }
 
 /// Gives the row of the next item, and returns whether there was one.
-#[tactic(auto, using(crate::proofs::Counting::files_more, crate::proofs::Counting::files_none, crate::proofs::FailingReads::read_handed_on, crate::proofs::FailingReads::fault_by_memory))]
+#[tactic(auto, using(hfs_database::proofs::GivenLemmas::begins_itself, crate::proofs::Counting::files_more, crate::proofs::Counting::files_none, crate::proofs::FailingReads::read_handed_on, crate::proofs::FailingReads::fault_by_memory))]
 fn give_next<S: PlacedBlocks + Drop, T: RowTaker>(
     alloc: Global,
     taker: &mut T,
@@ -94,7 +96,9 @@ fn give_next<S: PlacedBlocks + Drop, T: RowTaker>(
     ensures counted { OnOk result (counts.new.files + file_total inventory.new.left
         ≡ counts.old.files + file_total inventory.old.left) }
     ensures ended { IfOk result (λ more. more ≡ false → inventory.new.left ≡ []) }
-    ensures part { OnErr result (T.given taker.new ≡ T.given taker.old) }
+    ensures part { OnErr result (OfEach (S.Holds image.new) (λ bytes. IsBeginning (T.given taker.new)
+        (T.given taker.old ++ item_rows_from taken (entries_of (volume_of bytes)) counts.old.items
+        inventory.old.left))) }
     ensures narrows { OfEach (S.Holds image.new) (S.Holds image.old) }
     ensures failed { IfErr result (IsFaultOf (SomeFail (S.Holds image.new) (S.Fails image.old))) }
     ensures later { FailsWhere (S.Fails image.new) (S.Fails image.old) }

@@ -28,7 +28,7 @@ use hfs_source::{PlacedBlocks, SeenBlocks};
 use std::alloc::Global;
 
 /// Gives the row of a volume.
-#[tactic(auto, using(crate::proofs::FailingReads::fault_by_memory, crate::proofs::FailingReads::fault_by_taker))]
+#[tactic(auto, using(hfs_database::proofs::GivenLemmas::begins_itself, hfs_database::proofs::GivenLemmas::begins_with, crate::proofs::FailingReads::fault_by_memory, crate::proofs::FailingReads::fault_by_taker))]
 pub(crate) fn give_volume_row<T: RowTaker>(
     alloc: Global,
     taker: &mut T,
@@ -38,7 +38,8 @@ pub(crate) fn give_volume_row<T: RowTaker>(
 ) -> Result<(), CollectFault>
     ensures whole { OnOk result (T.given taker.new ≡ T.given taker.old
         ++ row_of table.Volume (volume_values place.now fault directory.now) ∷ []) }
-    ensures part { OnErr result (T.given taker.new ≡ T.given taker.old) }
+    ensures part { OnErr result (IsBeginning (T.given taker.new) (T.given taker.old
+        ++ row_of table.Volume (volume_values place.now fault directory.now) ∷ [])) }
     ensures failed { IfErr result (IsFaultOf ⊥) }
     ensures reference { T.reference taker.new ≡ T.reference taker.old }
     ensures place { T.place taker.new ≡ T.place taker.old }
@@ -63,7 +64,9 @@ fn give_remaining_item<S: PlacedBlocks + Drop, T: RowTaker>(
         ≡ T.given taker.old ++ remains_row taken (image_of found.now image) i (told item.now))) }
     ensures counted { IfOk result (λ more. OfEach (S.Holds source.new.blocks) (λ image. more
         ≡ remains_files (image_of found.now image) i (told item.now))) }
-    ensures part { OnErr result (T.given taker.new ≡ T.given taker.old) }
+    ensures part { OnErr result (OfEach (S.Holds source.new.blocks) (λ image. IsBeginning
+        (T.given taker.new) (T.given taker.old
+        ++ remains_row taken (image_of found.now image) i (told item.now)))) }
     ensures narrows { OfEach (S.Holds source.new.blocks) (S.Holds source.old.blocks) }
     ensures failed { IfErr result (IsFaultOf (SomeFail (S.Holds source.new.blocks)
         (S.Fails source.old.blocks))) }

@@ -1,5 +1,5 @@
 //! An image's rows as text.
-ghost use Rattle.std.specs.Prelude.{◌≡◌, ◌++◌, length, IfErr, IfNone, IfOk, IfSome, OnErr};
+ghost use Rattle.std.specs.Prelude.{◌≡◌, ◌++◌, length, IfErr, IfNone, IfOk, IfSome, OnErr, ⊤};
 ghost use Rattle.hfs_bag.specs.Failing.{SomeFailOf};
 ghost use Rattle.hfs_word_collect.specs.Answers.{IsUnwritten};
 ghost use Rattle.hfs_word_collect.specs.Counts.{image_counts};
@@ -36,7 +36,7 @@ pub fn write_image<W: Write + Drop, S: PlacedBytes + Drop, K: PickedImage, F: Im
     ensures part { OnErr result (F.Holds rows.new.file K.image →
         WritesPart (W.contents taker.old.start.value) (W.contents taker.new.writer)
         taker.old.form (taker.old.given.rows ++ image_rows rows.old.facts.now K.image)) }
-    ensures fault { IfErr result IsUnwritten }
+    ensures fault { IfErr result (IsUnwritten ⊤) }
 {
     match give_image::<S, K, F, TextTaker<W>>(rows.alloc, taker, &mut rows.file, rows.facts) {
         Ok(counts) => {

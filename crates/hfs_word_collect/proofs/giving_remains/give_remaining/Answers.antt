@@ -6,7 +6,7 @@ use Rattle.hfs_source.specs.Images.{OfEach}
 use Rattle.hfs_word_collect.specs.Refused.{image_of}
 use Rattle.hfs_word_collect.specs.Remains.{remains_rows_from}
 use Rattle.hfs_word_collect.proofs.Counting.{FilesLeft, counts_first, counts_last, counts_next}
-use Rattle.hfs_word_collect.proofs.RemainsGoing.{remains_last, remains_next, remains_part}
+use Rattle.hfs_word_collect.proofs.RemainsGoing.{remains_begin, remains_last, remains_next, remains_part}
 use Rattle.hfs_word_collect.proofs.FailingReads.{read_handed_on}
 use Rattle.hfs_word_collect.proofs.giving_remains.give_remaining.Goals as goal
 
@@ -42,9 +42,11 @@ returns-in_err-more-clause-part g c =
     let items = c.args.items.now in
     let start = g.T.RowTaker.given c.args.taker.now in
     let new = g.T.RowTaker.given c.give_remaining_item.new.taker in
+    let item = c.index-items-i.result in
+    let own : item ≡ get_or items c.loop-i.i item = search rules in
     let part : OfEach (g.S.PlacedBlocks.Holds c.give_remaining_item.new.source.blocks) (λ image. IsBeginning new (start ++ remains_rows_from c.args.taken (image_of c.args.found.now image) 0 items)) =
     λ image h. remains_part c.args.taken (image_of c.args.found.now image) items (start ++ remains_rows_from c.args.taken (image_of c.args.found.now image) 0 items) c.loop-i.i
-    (g.T.RowTaker.given c.loop-i.taker) new (c.loop-i.invariant.rows image (c.in_err-more.ensures.narrows image h)) c.in_err-more.ensures.part in
+    item (g.T.RowTaker.given c.loop-i.taker) new c.loop-i-test.true own (c.loop-i.invariant.rows image (c.in_err-more.ensures.narrows image h)) (c.in_err-more.ensures.part image h) in
     on_err _ _ part
 
 pub returns-in_default-clause-part : goal.returns-in_default-clause-part
@@ -55,9 +57,9 @@ returns-in_default-clause-part g c =
     let own : item ≡ get_or items c.loop-i.i item = search rules in
     λ image h.
     let all = g.T.RowTaker.given c.args.taker.now ++ remains_rows_from c.args.taken (image_of c.args.found.now image) 0 items in
-    remains_part c.args.taken (image_of c.args.found.now image) items all (c.loop-i.i + 1) new new
+    remains_begin c.args.taken (image_of c.args.found.now image) items all (c.loop-i.i + 1) new
     (remains_next c.args.taken (image_of c.args.found.now image) items all c.loop-i.i item (g.T.RowTaker.given c.loop-i.taker) new c.loop-i-test.true own
-    (c.loop-i.invariant.rows image (c.in_ok-more.ensures.narrows image h)) (c.in_ok-more.ensures.whole image h)) refl
+    (c.loop-i.invariant.rows image (c.in_ok-more.ensures.narrows image h)) (c.in_ok-more.ensures.whole image h))
 
 pub returns-clause-whole : goal.returns-clause-whole
 returns-clause-whole g c =
