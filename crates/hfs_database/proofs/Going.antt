@@ -1,5 +1,5 @@
 -- Rows on their way to a writer.
-use Rattle.std.proofs.Common.{◌≡◌, ◌∙◌, refl, sym, ap, subst, ℕ, ◌+◌, Bool, true, false, List, [], ◌∷◌, ◌++◌, append_assoc, append-nil, length, take, drop, take-append-drop, true≢false}
+use Rattle.std.proofs.Common.{◌≡◌, ◌∙◌, refl, sym, ap, subst, ℕ, Bool, true, false, List, [], ◌∷◌, ◌++◌, append_assoc, append-nil, length, take, drop, take-append-drop, true≢false}
 use lib.Seq.{take-append_seam}
 use mathlib.Core.HLevel.{⊥_prop}
 use denote.Struct.Props.{≡_prop}
@@ -7,9 +7,7 @@ use Rattle.std.specs.Coded.{coded_list, coded_ℕ}
 use Rattle.std.specs.Prelude.{Option, None, Some}
 use Rattle.std.specs.Io.KnownBytes.{Appends}
 use Rattle.std.proofs.KnownBytes.{Appends-nil, Appends-trans}
-use Rattle.hfs_database.specs.declared.value.RowValue.{RowValue}
-use Rattle.hfs_database.specs.declared.value.Table.{Table}
-use Rattle.hfs_database.specs.Taken.{TakenRow, row_of, with_row}
+use Rattle.hfs_database.specs.Taken.{TakenRow}
 use Rattle.hfs_texts.specs.Writing.{AppendsFront}
 use Rattle.hfs_database.specs.declared.form.Form.{Form}
 use Rattle.hfs_database.specs.declared.keys.Keys.{Keys}

@@ -1,8 +1,7 @@
 -- An object's tokens, put one part after the other.
-use Rattle.std.proofs.Common.{◌≡◌, ◌∙◌, ap, sym, ℕ, List, [], ◌∷◌, ◌++◌, append_assoc, map}
+use Rattle.std.proofs.Common.{◌≡◌, ◌∙◌, ap, sym, List, [], ◌∷◌, ◌++◌, append_assoc, map}
 use Rattle.std.specs.Prelude.{Option, flat_map}
 use Rattle.json.specs.Token.{Token, begin_object, end_object}
-use Rattle.json.specs.Written.{Written}
 use Rattle.hfs_database.specs.declared.value.RowValue.{RowValue}
 use Rattle.hfs_database.specs.declared.column.Column.{Column}
 use Rattle.hfs_database.specs.declared.column.Label.{Label}

@@ -1,5 +1,5 @@
 -- The names of the columns, one behind the other.
-use Rattle.std.proofs.Common.{◌≡◌, ◌∙◌, ap, sym, subst, ◌++◌, OnOk, ℕ, List, map, codes, rules}
+use Rattle.std.proofs.Common.{◌≡◌, sym, subst, ◌++◌, OnOk, ℕ, List, rules}
 use Rattle.hfs_database.proofs.Fields.{head_of_none, head_of_some}
 use Rattle.hfs_database.proofs.csv_line.push_csv_head.Goals as goal
 

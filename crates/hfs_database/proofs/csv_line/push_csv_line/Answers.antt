@@ -1,5 +1,5 @@
 -- The fields of the columns, one behind the other.
-use Rattle.std.proofs.Common.{◌≡◌, ◌∙◌, ap, sym, subst, ◌++◌, OnOk, ℕ, List, map, codes, rules}
+use Rattle.std.proofs.Common.{◌≡◌, sym, subst, ◌++◌, OnOk, ℕ, List, rules}
 use Rattle.hfs_database.proofs.Fields.{line_of_none, line_of_some}
 use Rattle.hfs_database.proofs.csv_line.push_csv_line.Goals as goal
 

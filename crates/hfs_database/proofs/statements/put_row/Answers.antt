@@ -3,7 +3,7 @@ use Rattle.std.proofs.Common.{◌≡◌, ◌∷◌, ℤ, inl, inr, map, sym, sub
 use Rattle.sqlite.specs.Held.{state}
 use Rattle.sqlite.specs.declared.types.Value.TheVariants.{Int}
 use Rattle.hfs_database.specs.declared.value.Table.{Table}
-use Rattle.hfs_database.specs.Refusals.{FailsToShowNumber, HasLargeNumber, RefusesRow}
+use Rattle.hfs_database.specs.Refusals.{FailsToShowNumber, RefusesRow}
 use Rattle.hfs_database.specs.StatementTexts.{put_volume_text}
 use Rattle.hfs_database.specs.Values.{sql_value}
 use Rattle.hfs_database.proofs.RefusalLemmas.{untaken_of}

@@ -1,10 +1,6 @@
 -- The parameters are the name and the text, and the answer's row tells, or doesn't.
-use Rattle.std.proofs.Common.{◌≡◌, ◌∷◌, [], List, ℕ, Result, Ok, Err, ap, inl, subst}
-use Rattle.sqlite.specs.declared.error.Error.{Error}
-use Rattle.sqlite.specs.declared.types.Value.{Value}
-use Rattle.sqlite.specs.declared.types.Value.TheVariants.{Text}
+use Rattle.std.proofs.Common.{Ok, Err, inl}
 use Rattle.sqlite.specs.Held.{state}
-use Rattle.sqlite.specs.State.{HasCleanDisk, QueriesRow}
 use Rattle.hfs_database.specs.Tables.{find_part_text, part_of}
 use Rattle.hfs_database.proofs.TableLemmas.{asked_by, if_ok, unfound_by}
 use Rattle.hfs_database.proofs.tables.find.Goals as goal

@@ -1,5 +1,5 @@
 -- The end of an image, or a fault.
-use Rattle.std.proofs.Common.{◌≡◌, ap, subst, Bool, true, false, OnErr, Result, Ok, Err}
+use Rattle.std.proofs.Common.{ap, subst, Bool, true}
 use Rattle.std.proofs.Math.Logic.{∥∥₁_map, ∥∥₁_elim}
 use Rattle.hfs_fields.proofs.OutcomeLemmas.{on_err}
 use Rattle.hfs_database.specs.UnderWay.{IsUnderWay}

@@ -1,5 +1,5 @@
 -- A row more, or a fault, behind which no more is taken.
-use Rattle.std.proofs.Common.{◌≡◌, sym, subst, Bool, false, List}
+use Rattle.std.proofs.Common.{sym, subst, Bool, false, List}
 use Rattle.std.proofs.Math.Logic.{∥∥₁_map}
 use Rattle.hfs_database.specs.Taken.{TakenRow, row_of}
 use Rattle.hfs_database.specs.UnderWay.{IsUnderWay}
