@@ -41,3 +41,14 @@ returns-in_ok-give_volume_row-in-None-clause-whole g c = λ image h.
     let new = g.T.RowTaker.given c.give_volume_row.new.taker in
     let none : found_directory image ≡ None = subst (IsFoundIn image) c.in-None.is (c.requires.found_is image h (c.requires.long image h)) in
     unfound_given image c.args.taken c.args.place.now (λ rows. new ≡ start ++ rows) c.args.image.now.why none c.in_ok-give_volume_row-in-None.ensures.whole
+
+pub returns-in_err-give_volume_row-in-None-clause-part : goal.returns-in_err-give_volume_row-in-None-clause-part
+returns-in_err-give_volume_row-in-None-clause-part g c =
+    let start = g.T.RowTaker.given c.args.taker.now in
+    let new = g.T.RowTaker.given c.give_volume_row.new.taker in
+    let why = c.args.image.now.why in
+    let part : OfEach (g.S.PlacedBlocks.Holds c.args.image.now.source.blocks) (λ bytes. IsBeginning new (start ++ fault_rows c.args.taken c.args.place.now (Some why) bytes)) =
+    λ image h.
+    let none : found_directory image ≡ None = subst (IsFoundIn image) c.in-None.is (c.requires.found_is image h (c.requires.long image h)) in
+    unfound_given image c.args.taken c.args.place.now (λ rows. IsBeginning new (start ++ rows)) why none c.in_err-give_volume_row-in-None.ensures.part in
+    on_err _ _ part
