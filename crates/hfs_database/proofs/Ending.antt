@@ -280,7 +280,10 @@ leaves_itself g held = survives_weaker (state g held) (state g held) (λ _. ⊥)
 -- after a rollback a transaction is under way still
 pub still_begun : {S : Type 0} (g : Ghosts S) (old new : Held S) (before : Bool) → before ≡ not old.in_transaction → before ≡ false → false ≡ not new.in_transaction
     → (count : ℕ) → (HasCleanDisk (state g new) → Executes (codes "ROLLBACK") [] (state g old) (state g new) (Ok count)) → IsNotRolledBack g old new
-still_begun g old new before was within still count ran =
-    (SqliteFailure SystemIoFailure, refl, λ clean.
-    let back = rolled_back g old new (Ok count) (sym was ∙ within) (ran clean) in
-    absurd (true≢false (sym (ap not back.autocommit) ∙ sym still)))
+still_begun g old new before was within still count ran = (
+  SqliteFailure SystemIoFailure,
+  refl,
+  λ clean.
+      let back = rolled_back g old new (Ok count) (sym was ∙ within) (ran clean) in
+      absurd (true≢false (sym (ap not back.autocommit) ∙ sym still)),
+)

@@ -1,5 +1,5 @@
 -- Volumes that are given one after the other.
-use Rattle.std.proofs.Common.{◌≡◌, ◌∙◌, ℕ, ◌+◌, ◌<◌, ◌≤◌, Bool, List, [], ◌∷◌, ◌++◌, length, drop, get_or, append-nil, append_assoc, refl, ap, sym, subst}
+use Rattle.std.proofs.Common.{◌≡◌, ◌∙◌, ℕ, ◌+◌, ◌<◌, ◌≤◌, Bool, List, [], ◌∷◌, ◌++◌, length, drop, get_or, append-nil, append_assoc, ap, sym, subst}
 use Rattle.std.proofs.lemmas.List.{drop_more, drop_all}
 use Rattle.hfs_source.specs.declared.ranges.FoundRange.{FoundRange}
 use Rattle.hfs_database.specs.Taken.{TakenRow, IsBeginning}

@@ -1,5 +1,5 @@
 -- What was found of a refused volume.
-use Rattle.std.specs.Prelude.{◌≡◌, ℕ, ◌*◌, Bool, List, ◌∷◌, length, Option, Some, None}
+use Rattle.std.specs.Prelude.{◌≡◌, ℕ, ◌*◌, Bool, List, ◌∷◌, length, Some}
 use Rattle.hfs_check.specs.declared.mount_fault.MountFault.{MountFault}
 use Rattle.hfs_remains_forks.specs.declared.finds.Finds.{Finds}
 use Rattle.hfs_remains_forks.specs.Finds.{AreFinds, found_directory}

@@ -104,6 +104,8 @@ pub fn collect_image<D: Alter + Drop, S: PlacedBytes + Drop, K: PickedImage, F: 
         Err(PutFault::Database(fault)) => Err(RunFault::from(fault)),
         Err(PutFault::Source(CollectFault::ReadFailed)) => Ok(None),
         // No row was refused, so a lack of memory is left.
-        Err(PutFault::Source(CollectFault::CannotWrite | CollectFault::NoMemory)) => Err(RunFault::NoMemory),
+        Err(PutFault::Source(CollectFault::CannotWrite | CollectFault::NoMemory)) => Err(
+            RunFault::NoMemory,
+        ),
     }
 }

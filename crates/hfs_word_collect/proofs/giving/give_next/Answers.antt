@@ -1,8 +1,7 @@
 -- What begins with the next row begins with all that are to come.
-use Rattle.std.proofs.Common.{◌≡◌, ◌∷◌, ◌++◌, [], List, ℕ, Option, subst}
+use Rattle.std.proofs.Common.{◌≡◌, ◌∷◌, ◌++◌, [], List, ℕ, subst}
 use Rattle.hfs_fields.proofs.OutcomeLemmas.{on_err}
 use Rattle.hfs_model.specs.Children.{entries_of}
-use Rattle.hfs_model.specs.declared.reply.Info.{Info}
 use Rattle.hfs_check.specs.VolumeOf.{volume_of}
 use Rattle.hfs_items.specs.Levels.{GivesRow}
 use Rattle.hfs_source.specs.Images.{OfEach}

@@ -1,5 +1,5 @@
 -- The volume's row begins the rows of what was found.
-use Rattle.std.proofs.Common.{◌≡◌, ◌∷◌, ◌++◌, Some}
+use Rattle.std.proofs.Common.{◌++◌, Some}
 use Rattle.hfs_fields.proofs.OutcomeLemmas.{on_err}
 use Rattle.hfs_source.specs.Images.{OfEach}
 use Rattle.hfs_database.specs.declared.value.Table.TheVariants.{Volume}

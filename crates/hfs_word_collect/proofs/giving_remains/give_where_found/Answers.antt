@@ -1,5 +1,5 @@
 -- By what was found of the volume.
-use Rattle.std.proofs.Common.{◌≡◌, ◌++◌, ℕ, List, None, append-nil, subst, sym}
+use Rattle.std.proofs.Common.{◌≡◌, ◌++◌, None, append-nil, subst, sym}
 use Rattle.hfs_fields.proofs.OutcomeLemmas.{on_err}
 use Rattle.hfs_remains_forks.specs.Finds.{IsFoundIn, found_directory}
 use Rattle.hfs_database.specs.Taken.{IsBeginning}
