@@ -101,6 +101,7 @@ impl<S: Alter> RowTaker for DatabaseTaker<'_, S> {
             ≡ with_row self.old.history.now.given.rows table values.now) }
         ensures refused { OnErr result (MayEndWith self.old.history.now.given.rows table values.now
             self.new.history.now.given.rows) }
+        ensures noted { IfErr result (λ fault. self.new.failed ≡ Some fault) }
         ensures reference { self.new.conn.ghost_name ≡ self.old.conn.ghost_name }
         ensures place { self.new.history.now.start.value ≡ self.old.history.now.start.value }
         ensures put { OnOk result (PutsRow S.Store table (map sql_value values.now)
