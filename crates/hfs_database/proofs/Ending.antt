@@ -277,13 +277,15 @@ module _ {S : Type 0} (g : Ghosts S) (old new : Held S) (count : ℕ) where
 pub leaves_itself : {S : Type 0} (g : Ghosts S) (held : Held S) → Survives (state g held) (state g held) (λ db. db ≡ (state g held).now.trees)
 leaves_itself g held = survives_weaker (state g held) (state g held) (λ _. ⊥) (λ db. db ≡ (state g held).now.trees) (λ clean db never. absurd never) (keeps_itself g held).survives
 
+-- where autocommit is off a transaction is under way
+pub inside_of : (inside : Bool) → not inside ≡ false → IsTrue inside
+inside_of true off = refl
+inside_of false off = absurd (true≢false off)
+
 -- after a rollback a transaction is under way still
 pub still_begun : {S : Type 0} (g : Ghosts S) (old new : Held S) (before : Bool) → before ≡ not old.in_transaction → before ≡ false → false ≡ not new.in_transaction
     → (count : ℕ) → (HasCleanDisk (state g new) → Executes (codes "ROLLBACK") [] (state g old) (state g new) (Ok count)) → IsNotRolledBack g old new
-still_begun g old new before was within still count ran = (
-  SqliteFailure SystemIoFailure,
-  refl,
-  λ clean.
-      let back = rolled_back g old new (Ok count) (sym was ∙ within) (ran clean) in
-      absurd (true≢false (sym (ap not back.autocommit) ∙ sym still)),
-)
+still_begun g old new before was within still count ran =
+    let none : HasCleanDisk (state g new) → ⊥ = λ clean.
+    let back = rolled_back g old new (Ok count) (sym was ∙ within) (ran clean) in true≢false (sym (ap not back.autocommit) ∙ sym still) in
+    (inside_of old.in_transaction (sym was ∙ within), (SqliteFailure SystemIoFailure, refl, λ clean. absurd (none clean)))

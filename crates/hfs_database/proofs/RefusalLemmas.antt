@@ -1,5 +1,5 @@
 -- Faults that are handed on with their cause.
-use Rattle.std.proofs.Common.{◌≡◌, ◌∙◌, Result, Ok, Err, IsErrAnd, Option, Some, None, inl, inr, List, [], ◌∷◌, ◌++◌, map, sym, subst}
+use Rattle.std.proofs.Common.{◌≡◌, ◌∙◌, Result, Ok, Err, IsErrAnd, Option, Some, None, false, inl, inr, List, [], ◌∷◌, ◌++◌, map, sym, subst}
 use Rattle.std.proofs.Math.Logic.{∥∥₁_map}
 use Rattle.std.specs.Prelude.{IfErr, OnOk}
 use Rattle.std.specs.Result.{result_err}
@@ -13,7 +13,7 @@ use Rattle.hfs_database.specs.declared.statements.LastRows.{LastRows}
 use Rattle.hfs_database.specs.Faults.{untaken_fault}
 use Rattle.hfs_database.specs.Rows.{PutsRow}
 use Rattle.hfs_database.specs.Taken.{TakenRow}
-use Rattle.hfs_database.specs.Transactions.{HasPutSince, IsBegun, IsUndone, LeavesFile, PutsAll, no_rows}
+use Rattle.hfs_database.specs.Transactions.{HasPutSince, IsBegun, IsUndone, KeepsFile, LeavesFile, PutsAll, no_rows}
 use Rattle.hfs_database.specs.Values.{sql_value}
 use Rattle.hfs_database.proofs.RowLemmas.{puts_one_more}
 use Rattle.hfs_database.specs.declared.row_fault.TakerFault.{TakerFault}
@@ -53,8 +53,19 @@ module _ {S : Type 0} (g : Ghosts S) (start before now : Held S) (put rows : Lis
       subst (λ (all : List TakenRow). HasPutSince g start all now after) (sym is) (puts_one_more g put row start before now no_rows last after puts (took r (sym told ∙ none) done))
 
   -- it was refused
-  pub refused_last : IfErr r (IsUntaken (RefusesRow g row.table row.values before now last)) → HasPutSince g start put before last → failed ≡ Some taker.CannotWrite → HasRefusedLast g start rows now
-  refused_last why puts some = record { put = put; row = row; rows_are = is; before = before; last = last; puts = puts; refuses = lost r (sym told ∙ some) why }
+  pub refused_last : IfErr r (IsUntaken (RefusesRow g row.table row.values before now last)) → KeepsFile g start before → KeepsFile g before now → HasPutSince g start put before last
+      → failed ≡ Some taker.CannotWrite → HasRefusedLast g start rows now
+  refused_last why keeps kept puts some = record {
+    put = put;
+    row = row;
+    rows_are = is;
+    before = before;
+    last = last;
+    puts = puts;
+    keeps = keeps;
+    kept = kept;
+    refuses = lost r (sym told ∙ some) why;
+  }
 
 -- what was refused is the last row that came of a source
 pub refused_one : {S : Type 0} (g : Ghosts S) (Begins : List TakenRow → List TakenRow → Type 0) (start begun now : Held S) (before rows : List TakenRow) (failed : Option TakerFault)
@@ -71,14 +82,16 @@ unwritten_by (CannotOpen obstacle) more why = elim why [ ]
 unwritten_by CannotWrite more why = more why
 unwritten_by NoMemory more why = tt
 
-module _ {S : Type 0} (g : Ghosts S) (AreGiven AreRows : List TakenRow → Type 0) (start first given new : Held S) (begins : IsBegun g start first) where
-  pub failed_commit : (fault : DatabaseFault) → PutsAll g AreRows first given → IsUnwritten (IsUncommitted g given new) fault → IsUnwritten (FailsToPut g AreGiven AreRows start new) fault
-  failed_commit fault puts fails = unwritten_by fault (λ why. ∣ inr (first, given, begins, inr (inl (puts, why))) ∣₁) fails
+module _ {S : Type 0} (g : Ghosts S) (AreGiven AreRows : List TakenRow → Type 0) (start first given new : Held S) (begins : IsBegun g start first) (begun : KeepsFile g start first) where
+  pub failed_commit : (fault : DatabaseFault) → PutsAll g AreRows first given → LeavesFile g first given → IsUnwritten (IsUncommitted g given new) fault
+      → IsUnwritten (FailsToPut g AreGiven AreRows start new) fault
+  failed_commit fault puts leaves fails = unwritten_by fault (λ why. ∣ inr (first, given, begins, begun, inr (inl (puts, leaves, why))) ∣₁) fails
 
-  pub failed_undo : (fault : DatabaseFault) → LeavesFile g first given → IsUnwritten (IsNotRolledBack g given new) fault → IsUnwritten (FailsToPut g AreGiven AreRows start new) fault
-  failed_undo fault leaves fails = unwritten_by fault (λ why. ∣ inr (first, given, begins, inr (inr (leaves, why))) ∣₁) fails
+  pub failed_undo : (fault : DatabaseFault) → LeavesFile g first given → KeepsFile g given new → IsUnwritten (IsNotRolledBack g given new) fault
+      → IsUnwritten (FailsToPut g AreGiven AreRows start new) fault
+  failed_undo fault leaves kept fails = unwritten_by fault (λ why. ∣ inr (first, given, begins, begun, inr (inr (leaves, why, kept))) ∣₁) fails
 
-  pub refused_and_undone : {F : Type 0} (Fails : F → Type 0) (fault : PutFault F) → IsUndone g given new → IsUnput Fails (RefusesOne g AreGiven first given) fault
+  pub refused_and_undone : {F : Type 0} (Fails : F → Type 0) (fault : PutFault F) → IsUndone g given new → KeepsFile g given new → new.in_transaction ≡ false → IsUnput Fails (RefusesOne g AreGiven first given) fault
       → IsUnput Fails (FailsToPut g AreGiven AreRows start new) fault
-  refused_and_undone Fails (Source why) undone fails = fails
-  refused_and_undone Fails (Database why) undone fails = unwritten_by why (λ refused. ∣ inr (first, given, begins, inl (refused, undone)) ∣₁) fails
+  refused_and_undone Fails (Source why) undone kept ended fails = fails
+  refused_and_undone Fails (Database why) undone kept ended fails = unwritten_by why (λ refused. ∣ inr (first, given, begins, begun, inl (refused, undone, kept, ended)) ∣₁) fails

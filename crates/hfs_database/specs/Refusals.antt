@@ -22,7 +22,7 @@ use Rattle.hfs_database.specs.Doing.{HasFound}
 use Rattle.hfs_database.specs.Faults.{IsUnreadable, is_memory}
 use Rattle.hfs_database.specs.StatementTexts.{drop_volumes_text, put_image_text, put_item_text, put_volume_text}
 use Rattle.hfs_database.specs.Taken.{TakenRow}
-use Rattle.hfs_database.specs.Transactions.{HasPutSince, IsBegun, IsUndone, LeavesFile, PutsAll}
+use Rattle.hfs_database.specs.Transactions.{HasPutSince, IsBegun, IsUndone, KeepsFile, LeavesFile, PutsAll}
 use Rattle.hfs_database.specs.Values.{sql_value}
 
 -- ---- faults that have a cause
@@ -45,7 +45,7 @@ IsUnput Fails Why (Database fault) = IsUnwritten Why fault
 
 -- ---- statements that fail
 
--- what was done ended in an error, and not for want of memory: it was this one, as long as the disk is clean
+-- what was done ended in an error, but not for want of memory, of which this holds, as long as the disk is clean
 abbrev pub EndsInError : State → (Error → Type 0) → Type 0
 EndsInError new Ends = (error : Error) × (is_memory error ≡ false) × (HasCleanDisk new → Ends error)
 
@@ -53,18 +53,23 @@ EndsInError new Ends = (error : Error) × (is_memory error ≡ false) × (HasCle
 abbrev pub FailsToExecute : State → State → List ℕ → Type 0
 FailsToExecute old new text = EndsInError new (λ error. Executes text [] old new (Err error))
 
+-- no transaction is under way, so nothing was done
+abbrev pub IsOutside : {S : Type 0} → Held S → Held S → Type 0
+IsOutside old new = (old.in_transaction ≡ false) × (new ≡ old)
+
 -- this text can't be asked with these parameters within a transaction: none is under way, or the question has no answer
-abbrev pub FailsToAsk : State → State → List ℕ → List Value → Type 0
-FailsToAsk old new text params = (old.in_transaction ≡ false) ⊎ EndsInError new (FailsToQuery text params old new)
+abbrev pub FailsToAsk : {S : Type 0} → Ghosts S → Held S → Held S → List ℕ → List Value → Type 0
+FailsToAsk g old new text params = IsOutside old new ⊎ EndsInError (state g new) (FailsToQuery text params (state g old) (state g new))
 
 -- the same, or the answer has no row
-abbrev pub FailsToShowRow : State → State → List ℕ → List Value → Type 0
-FailsToShowRow old new text params = (old.in_transaction ≡ false) ⊎ EndsInError new (λ error. QueriesRow text params old new (Err error))
+abbrev pub FailsToShowRow : {S : Type 0} → Ghosts S → Held S → Held S → List ℕ → List Value → Type 0
+FailsToShowRow g old new text params = IsOutside old new ⊎ EndsInError (state g new) (λ error. QueriesRow text params (state g old) (state g new) (Err error))
 
 -- the same, or the row doesn't begin with a number
-abbrev pub FailsToShowNumber : State → State → List ℕ → List Value → Type 0
-FailsToShowNumber old new text params =
-    FailsToShowRow old new text params ⊎ ((row : List Value) × (HasCleanDisk new → QueriesRow text params old new (Ok row)) × IsUnreadable IsInt row 0)
+abbrev pub FailsToShowNumber : {S : Type 0} → Ghosts S → Held S → Held S → List ℕ → List Value → Type 0
+FailsToShowNumber g old new text params =
+    FailsToShowRow g old new text params
+    ⊎ ((row : List Value) × (HasCleanDisk (state g new) → QueriesRow text params (state g old) (state g new) (Ok row)) × IsUnreadable IsInt row 0)
 
 -- ---- rows that are refused
 
@@ -75,20 +80,21 @@ HasLargeNumber values = (n : ℕ) × Contains values (Number n) × (2 ^ 63 ≤ n
 -- an image's row can't be put, or the volumes of the image with its number can't be taken away
 abbrev pub RefusesImage : {S : Type 0} → Ghosts S → List Value → Held S → Held S → Type 0
 RefusesImage {S} g values old new =
-    FailsToShowNumber (state g old) (state g new) put_image_text values
-    ⊎ ((put : Held S) × (id : ℤ) × HasFound (state g old) (state g put) put_image_text values id × FailsToAsk (state g put) (state g new) drop_volumes_text (Int id ∷ []))
+    FailsToShowNumber g old new put_image_text values
+    ⊎ ((put : Held S) × (id : ℤ) × KeepsFile g old put × HasFound (state g old) (state g put) put_image_text values id × KeepsFile g put new
+    × FailsToAsk g put new drop_volumes_text (Int id ∷ []))
 
 -- these values can't be put into this table after the rows that were put last
 abbrev pub RefusesValues : {S : Type 0} → Ghosts S → Table → List Value → Held S → Held S → LastRows → Type 0
 RefusesValues g table.Image values old new last = RefusesImage g values old new
-RefusesValues g table.Volume values old new last = FailsToShowNumber (state g old) (state g new) put_volume_text (Int last.image ∷ values)
-RefusesValues g table.Item values old new last = FailsToAsk (state g old) (state g new) put_item_text (Int last.volume ∷ values)
+RefusesValues g table.Volume values old new last = FailsToShowNumber g old new put_volume_text (Int last.image ∷ values)
+RefusesValues g table.Item values old new last = FailsToAsk g old new put_item_text (Int last.volume ∷ values)
 
 -- a row can't be put after the rows that were put last: it has a number that no column holds, or its values can't be put
 abbrev pub RefusesRow : {S : Type 0} → Ghosts S → Table → List RowValue → Held S → Held S → LastRows → Type 0
 RefusesRow g table values old new last = HasLargeNumber values ⊎ RefusesValues g table (map sql_value values) old new last
 
--- since the database was like this the rows were put but for the last one, which was refused
+-- since the database was like this the rows were put but for the last one, which was refused; nothing was committed
 pub record HasRefusedLast {S : Type 0} (g : Ghosts S) (start : Held S) (rows : List TakenRow) (now : Held S) : Type 0 where
   pub put : List TakenRow
   pub row : TakenRow
@@ -96,6 +102,8 @@ pub record HasRefusedLast {S : Type 0} (g : Ghosts S) (start : Held S) (rows : L
   pub before : Held S
   pub last : LastRows
   pub puts : HasPutSince g start put before last
+  pub keeps : KeepsFile g start before
+  pub kept : KeepsFile g before now
   pub refuses : RefusesRow g row.table row.values before now last
 
 -- a source gave such rows, of which the last one was refused
@@ -104,25 +112,27 @@ RefusesOne g AreGiven start now = ∥ ((rows : List TakenRow) × AreGiven rows �
 
 -- ---- transactions that fail
 
--- none can begin: one is under way, or it is refused
+-- none can begin: one is under way, so nothing was done, or it is refused
 abbrev pub IsUnbegun : {S : Type 0} → Ghosts S → Held S → Held S → Type 0
-IsUnbegun g start new = IsTrue start.in_transaction ⊎ FailsToExecute (state g start) (state g new) (codes "BEGIN")
+IsUnbegun g start new = (IsTrue start.in_transaction × (new ≡ start)) ⊎ FailsToExecute (state g start) (state g new) (codes "BEGIN")
 
 -- it can't be committed: none is under way any more, or it is refused
 abbrev pub IsUncommitted : {S : Type 0} → Ghosts S → Held S → Held S → Type 0
-IsUncommitted g given new = (given.in_transaction ≡ false) ⊎ FailsToExecute (state g given) (state g new) (codes "COMMIT")
+IsUncommitted g given new = IsOutside given new ⊎ FailsToExecute (state g given) (state g new) (codes "COMMIT")
 
--- it can't be rolled back
+-- one is under way, and it can't be rolled back
 abbrev pub IsNotRolledBack : {S : Type 0} → Ghosts S → Held S → Held S → Type 0
-IsNotRolledBack g given new = FailsToExecute (state g given) (state g new) (codes "ROLLBACK")
+IsNotRolledBack g given new = IsTrue given.in_transaction × FailsToExecute (state g given) (state g new) (codes "ROLLBACK")
 
--- in a transaction that began like this a row was refused, and it was undone; or all rows were put, and it can't be committed; or it can't be
--- rolled back
+-- in a transaction that began like this a row was refused, and it was undone; or all rows were put, and it can't be committed; or, with nothing
+-- committed, it can't be rolled back
 abbrev pub FailsWithin : {S : Type 0} → Ghosts S → (List TakenRow → Type 0) → (List TakenRow → Type 0) → Held S → Held S → Held S → Type 0
 FailsWithin g AreGiven AreRows first given new =
-    (RefusesOne g AreGiven first given × IsUndone g given new) ⊎ ((PutsAll g AreRows first given × IsUncommitted g given new) ⊎ (LeavesFile g first given × IsNotRolledBack g given new))
+    (RefusesOne g AreGiven first given × IsUndone g given new × KeepsFile g given new × (new.in_transaction ≡ false))
+    ⊎ ((PutsAll g AreRows first given × LeavesFile g first given × IsUncommitted g given new)
+    ⊎ (LeavesFile g first given × IsNotRolledBack g given new × KeepsFile g given new))
 
--- why the rows of a source are not put in one transaction; of a part of them it is known what was given
+-- why the rows of a source are not put in one transaction, by what is known of those that it gave, and of all of them
 abbrev pub FailsToPut : {S : Type 0} → Ghosts S → (List TakenRow → Type 0) → (List TakenRow → Type 0) → Held S → Held S → Type 0
 FailsToPut {S} g AreGiven AreRows start new =
-    ∥ (IsUnbegun g start new ⊎ ((first : Held S) × (given : Held S) × IsBegun g start first × FailsWithin g AreGiven AreRows first given new)) ∥₁
+    ∥ (IsUnbegun g start new ⊎ ((first : Held S) × (given : Held S) × IsBegun g start first × KeepsFile g start first × FailsWithin g AreGiven AreRows first given new)) ∥₁

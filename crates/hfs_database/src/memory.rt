@@ -1,6 +1,7 @@
 //! A taker over memory.
 ghost use Rattle.std.specs.Prelude.{◌≡◌, [], ◌∷◌, ◌++◌, IfOk, OnErr, OnOk};
 ghost use Rattle.hfs_database.specs.StoredRows.{stored_rows};
+ghost use Rattle.hfs_database.specs.Taken.{MayEndWith, with_row};
 
 use crate::row_fault::TakerFault;
 use crate::row_taker::RowTaker;
@@ -65,7 +66,13 @@ impl RowTaker for MemoryTaker {
 
     ghost place = { λ _. tt };
 
-    fn take(&mut self, table: Table, values: &[RowValue]) -> Result<(), TakerFault> {
+    fn take(&mut self, table: Table, values: &[RowValue]) -> Result<(), TakerFault>
+        ensures whole { OnOk result (stored_rows self.new.rows.items
+            ≡ with_row (stored_rows self.old.rows.items) table values.now) }
+        ensures kept { OnErr result (stored_rows self.new.rows.items ≡ stored_rows self.old.rows.items) }
+        ensures refused { OnErr result (MayEndWith (stored_rows self.old.rows.items) table values.now
+            (stored_rows self.new.rows.items)) }
+    {
         let Ok(values) = all_copied(self.alloc, values) else {
             return Err(TakerFault::NoMemory);
         };

@@ -37,8 +37,8 @@ fn shown_row<S: Alter>(
 ) -> Result<Row, TakerFault>
     ensures done { IfOk result (HasShown (state S.Store conn.old) (state S.Store conn.new)
         text.now (bound parameters.now)) }
-    ensures fails { IfErr result (IsUntaken (FailsToShowRow (state S.Store conn.old)
-        (state S.Store conn.new) text.now (bound parameters.now))) }
+    ensures fails { IfErr result (IsUntaken (FailsToShowRow S.Store conn.old
+        conn.new text.now (bound parameters.now))) }
     ensures keeps { KeepsFile S.Store conn.old conn.new }
 {
     if conn.is_autocommit() {
@@ -59,8 +59,8 @@ fn run<S: Alter>(
 ) -> Result<(), TakerFault>
     ensures done { OnOk result (HasRunAll (state S.Store conn.old) (state S.Store conn.new)
         text.now (bound parameters.now)) }
-    ensures fails { IfErr result (IsUntaken (FailsToAsk (state S.Store conn.old)
-        (state S.Store conn.new) text.now (bound parameters.now))) }
+    ensures fails { IfErr result (IsUntaken (FailsToAsk S.Store conn.old
+        conn.new text.now (bound parameters.now))) }
     ensures keeps { KeepsFile S.Store conn.old conn.new }
 {
     if conn.is_autocommit() {
@@ -92,8 +92,8 @@ fn put<S: Alter>(
 ) -> Result<i64, TakerFault>
     ensures done { IfOk result (HasFound (state S.Store conn.old) (state S.Store conn.new)
         text.now (bound parameters.now)) }
-    ensures fails { IfErr result (IsUntaken (FailsToShowNumber (state S.Store conn.old)
-        (state S.Store conn.new) text.now (bound parameters.now))) }
+    ensures fails { IfErr result (IsUntaken (FailsToShowNumber S.Store conn.old
+        conn.new text.now (bound parameters.now))) }
     ensures keeps { KeepsFile S.Store conn.old conn.new }
 {
     let row = shown_row(conn, text, parameters)?;
@@ -105,8 +105,8 @@ fn put<S: Alter>(
 fn drop_volumes<S: Alter>(conn: &mut Connection<S>, image: i64) -> Result<(), TakerFault>
     ensures done { OnOk result (HasRunAll (state S.Store conn.old) (state S.Store conn.new)
         drop_volumes_text (Int image ∷ [])) }
-    ensures fails { IfErr result (IsUntaken (FailsToAsk (state S.Store conn.old)
-        (state S.Store conn.new) drop_volumes_text (Int image ∷ []))) }
+    ensures fails { IfErr result (IsUntaken (FailsToAsk S.Store conn.old
+        conn.new drop_volumes_text (Int image ∷ []))) }
     ensures keeps { KeepsFile S.Store conn.old conn.new }
 {
     let parameters = [ValueRef::Int(image)];
@@ -153,7 +153,7 @@ fn put_volume<S: Alter>(
         (state S.Store conn.new) put_volume_text
         (Int image ∷ map sql_value values.now)) }
     ensures fails { IfErr result (IsUntaken (HasLargeNumber values.now
-        ⊎ FailsToShowNumber (state S.Store conn.old) (state S.Store conn.new)
+        ⊎ FailsToShowNumber S.Store conn.old conn.new
         put_volume_text (Int image ∷ map sql_value values.now))) }
     ensures keeps { KeepsFile S.Store conn.old conn.new }
 {
@@ -177,7 +177,7 @@ fn put_item<S: Alter>(
         (state S.Store conn.new) put_item_text
         (Int volume ∷ map sql_value values.now)) }
     ensures fails { IfErr result (IsUntaken (HasLargeNumber values.now
-        ⊎ FailsToAsk (state S.Store conn.old) (state S.Store conn.new)
+        ⊎ FailsToAsk S.Store conn.old conn.new
         put_item_text (Int volume ∷ map sql_value values.now))) }
     ensures keeps { KeepsFile S.Store conn.old conn.new }
 {

@@ -3,6 +3,7 @@ ghost use Rattle.std.specs.Prelude.{◌≡◌, [], List, Option, OnErr, OnOk, �
 ghost use Rattle.std.specs.Io.KnownBytes.{Appends};
 ghost use Rattle.hfs_database.specs.declared.form.Form.{Form};
 ghost use Rattle.hfs_database.specs.RowTexts.{image_text};
+ghost use Rattle.hfs_database.specs.Taken.{MayEndWith, with_row};
 ghost use Rattle.hfs_database.specs.UnderWay.{IsUnderWay, WritesFront};
 
 use crate::form::Form;
@@ -92,7 +93,13 @@ impl<W: Write + Drop> RowTaker for TextTaker<W> {
 
     ghost place = { λ taker. (W.contents taker.start.value, taker.form) };
 
-    fn take(&mut self, table: Table, values: &[RowValue]) -> Result<(), TakerFault> {
+    fn take(&mut self, table: Table, values: &[RowValue]) -> Result<(), TakerFault>
+        ensures whole { OnOk result (self.new.given.rows ≡ with_row self.old.given.rows table values.now) }
+        ensures kept { OnErr result (self.new.given.rows ≡ self.old.given.rows) }
+        ensures refused { OnErr result (MayEndWith self.old.given.rows table values.now self.new.given.rows) }
+        ensures place { ◌≡◌ {A = Option (List ℕ) × Form} (W.contents self.new.start.value, self.new.form)
+            (W.contents self.old.start.value, self.old.form) }
+    {
         if self.has_failed {
             return Err(TakerFault::CannotWrite);
         }

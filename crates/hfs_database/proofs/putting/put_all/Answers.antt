@@ -8,7 +8,7 @@ pub returns-in-Err-commit-clause-fault : goal.returns-in-Err-commit-clause-fault
 returns-in-Err-commit-clause-fault g c =
     let source = c.put_rows.new.source in
     failed_commit g.S.Store (g.R.RowSource.Begins c.args.source.now source []) (g.R.RowSource.Gives c.args.source.now source []) c.args.conn.now c.begin.new.conn c.put_rows.new.conn
-    c.commit.new.conn c.in-Ok.ensures.begun c.in-Err-commit.fault c.in-Ok-put_rows.ensures.put c.in-Err-commit.ensures.fails
+    c.commit.new.conn c.in-Ok.ensures.begun c.begin.ensures.keeps c.in-Err-commit.fault c.in-Ok-put_rows.ensures.put c.put_rows.ensures.keeps c.in-Err-commit.ensures.fails
 
 pub returns-in-Err-commit-clause-all_or_none : goal.returns-in-Err-commit-clause-all_or_none
 returns-in-Err-commit-clause-all_or_none g c =
@@ -19,10 +19,11 @@ pub returns-in-Ok-undo-clause-fault : goal.returns-in-Ok-undo-clause-fault
 returns-in-Ok-undo-clause-fault g c =
     let source = c.put_rows.new.source in
     refused_and_undone g.S.Store (g.R.RowSource.Begins c.args.source.now source []) (g.R.RowSource.Gives c.args.source.now source []) c.args.conn.now c.begin.new.conn c.put_rows.new.conn
-    c.undo.new.conn c.in-Ok.ensures.begun (g.R.RowSource.Fails c.args.source.now source) c.in-Err-put_rows.fault c.undo.ensures.undone c.in-Err-put_rows.ensures.fault
+    c.undo.new.conn c.in-Ok.ensures.begun c.begin.ensures.keeps (g.R.RowSource.Fails c.args.source.now source) c.in-Err-put_rows.fault c.undo.ensures.undone c.undo.ensures.keeps c.in-Ok-undo.ensures.ended
+    c.in-Err-put_rows.ensures.fault
 
 pub returns-in-Err-undo-clause-fault : goal.returns-in-Err-undo-clause-fault
 returns-in-Err-undo-clause-fault g c =
     let source = c.put_rows.new.source in
     failed_undo g.S.Store (g.R.RowSource.Begins c.args.source.now source []) (g.R.RowSource.Gives c.args.source.now source []) c.args.conn.now c.begin.new.conn c.put_rows.new.conn
-    c.undo.new.conn c.in-Ok.ensures.begun c.in-Err-undo.fault c.put_rows.ensures.keeps c.in-Err-undo.ensures.fails
+    c.undo.new.conn c.in-Ok.ensures.begun c.begin.ensures.keeps c.in-Err-undo.fault c.put_rows.ensures.keeps c.undo.ensures.keeps c.in-Err-undo.ensures.fails

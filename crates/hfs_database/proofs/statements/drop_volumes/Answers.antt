@@ -18,4 +18,4 @@ pub returns-clause-fails : goal.returns-clause-fails
 unfolding drop_volumes_text
 returns-clause-fails g c =
     let same : to_z w64 (of_z w64 c.args.image) ≡ c.args.image = search rules in
-    subst (λ (id : ℤ). IfErr c.run.result (IsUntaken (FailsToAsk (state g.S.Store c.args.conn.now) (state g.S.Store c.run.new.conn) drop_volumes_text (Int id ∷ [])))) same c.run.ensures.fails
+    subst (λ (id : ℤ). IfErr c.run.result (IsUntaken (FailsToAsk g.S.Store c.args.conn.now c.run.new.conn drop_volumes_text (Int id ∷ [])))) same c.run.ensures.fails

@@ -24,5 +24,5 @@ unfolding put_item_text
 returns-clause-fails g c =
     untaken_as c.run.result inr (
     let same : to_z w64 (of_z w64 c.args.volume) ≡ c.args.volume = search rules in
-    subst (λ (values : List Value). IfErr c.run.result (IsUntaken (FailsToAsk (state g.S.Store c.args.conn.now) (state g.S.Store c.run.new.conn) put_item_text values)))
+    subst (λ (values : List Value). IfErr c.run.result (IsUntaken (FailsToAsk g.S.Store c.args.conn.now c.run.new.conn put_item_text values)))
     (ap bound c.deref.ensures.value ∙ c.in_ok-parameters.ensures.parameters ∙ ap (λ id. Int id ∷ map sql_value c.args.values.now) same) c.run.ensures.fails)

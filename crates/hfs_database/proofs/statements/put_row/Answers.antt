@@ -16,6 +16,6 @@ returns-in_err-last-in-Volume-clause-refused g c =
     (λ why. subst (λ (table : Table). RefusesRow g.S.Store table c.args.values.now c.args.conn.now c.put_volume.new.conn c.args.last.now) (sym c.in-Volume.is)
     (elim why [
       | inl large ↦ inl large
-      | inr fails ↦ inr (subst (λ (id : ℤ). FailsToShowNumber (state g.S.Store c.args.conn.now) (state g.S.Store c.put_volume.new.conn) put_volume_text (Int id ∷ map sql_value c.args.values.now)) same fails)
+      | inr fails ↦ inr (subst (λ (id : ℤ). FailsToShowNumber g.S.Store c.args.conn.now c.put_volume.new.conn put_volume_text (Int id ∷ map sql_value c.args.values.now)) same fails)
     ]))
     c.in_err-last-in-Volume.ensures.fails

@@ -24,5 +24,5 @@ unfolding put_volume_text
 returns-clause-fails g c =
     untaken_as c.put.result inr (
     let same : to_z w64 (of_z w64 c.args.image) ≡ c.args.image = search rules in
-    subst (λ (values : List Value). IfErr c.put.result (IsUntaken (FailsToShowNumber (state g.S.Store c.args.conn.now) (state g.S.Store c.put.new.conn) put_volume_text values)))
+    subst (λ (values : List Value). IfErr c.put.result (IsUntaken (FailsToShowNumber g.S.Store c.args.conn.now c.put.new.conn put_volume_text values)))
     (ap bound c.deref.ensures.value ∙ c.in_ok-parameters.ensures.parameters ∙ ap (λ id. Int id ∷ map sql_value c.args.values.now) same) c.put.ensures.fails)

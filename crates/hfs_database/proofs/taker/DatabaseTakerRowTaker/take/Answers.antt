@@ -1,6 +1,6 @@
 -- A row more, or a fault, after which no more is said.
 use Rattle.std.proofs.Common.{◌≡◌, None, rules, sym, subst}
-use Rattle.std.proofs.Math.Logic.{∥∥₁_map}
+use Rattle.std.proofs.Math.Logic.{∥∥₁_map, ∥∥₁_map₂}
 use Rattle.sqlite.specs.Held.{Held}
 use Rattle.hfs_database.specs.Taken.{row_of}
 use Rattle.hfs_database.specs.Refusals.{HasRefusedLast}
@@ -24,7 +24,7 @@ invariant_of-self g c =
       put = ∥∥₁_map self.put (λ was none. subst (λ (held : Held _). HasPutSince g.S.Store held rows after.conn after.last) start
           (put_on g.S.Store begun self.conn.now after.conn self.history.now.given.rows rows row self.last after.last c.note.ensures.given
           c.put_row-taken.result c.err-self.result c.err-self.ensures.value c.put_row-taken.ensures.done (was fine) none));
-      refused = ∥∥₁_map self.put (λ was some. subst (λ (held : Held _). HasRefusedLast g.S.Store held rows after.conn) start
+      refused = ∥∥₁_map₂ self.keeps self.put (λ kept was some. subst (λ (held : Held _). HasRefusedLast g.S.Store held rows after.conn) start
           (refused_last g.S.Store begun self.conn.now after.conn self.history.now.given.rows rows row self.last after.last c.note.ensures.given
-          c.put_row-taken.result c.err-self.result c.err-self.ensures.value c.put_row-taken.ensures.refused (was fine) some));
+          c.put_row-taken.result c.err-self.result c.err-self.ensures.value c.put_row-taken.ensures.refused kept c.put_row-taken.ensures.keeps (was fine) some));
     }
