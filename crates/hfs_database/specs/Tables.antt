@@ -70,9 +70,11 @@ both found.All found.All = found.All
 both found.All found.Other = found.Other
 both found.Other _ = found.Other
 
--- it was asked for this part, where the disk is clean still, and this is what there is of it
+-- it was asked for this part, where the disk is clean still, and this is what there is of it; the next question may take as many steps
 abbrev pub FindsPart : State → State → Part → Found → Type 0
-FindsPart old new part found = HasCleanDisk new → (row : List Value) × QueriesRow find_part_text (Text part.name ∷ Text part.text ∷ []) old new (Ok row) × Tells row found
+FindsPart old new part found =
+    (new.step_limit ≡ old.step_limit)
+    × (HasCleanDisk new → (row : List Value) × QueriesRow find_part_text (Text part.name ∷ Text part.text ∷ []) old new (Ok row) × Tells row found)
 
 -- it was asked for each of these, one after the other, and this is what there is of each of them
 abbrev pub FindsParts : {S : Type 0} → Ghosts S → List Part → Found → Held S → Held S → Type 0

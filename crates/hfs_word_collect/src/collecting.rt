@@ -103,7 +103,7 @@ pub fn collect_image<D: Alter + Drop, S: PlacedBytes + Drop, K: PickedImage, F: 
         Ok(counts) => Ok(Some(counts)),
         Err(PutFault::Database(fault)) => Err(RunFault::from(fault)),
         Err(PutFault::Source(CollectFault::ReadFailed)) => Ok(None),
-        // No row was refused, so a lack of memory is left.
+        // No row was refused, so this is told as a lack of memory.
         Err(PutFault::Source(CollectFault::CannotWrite | CollectFault::NoMemory)) => Err(
             RunFault::NoMemory,
         ),

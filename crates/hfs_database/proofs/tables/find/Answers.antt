@@ -9,7 +9,7 @@ pub returns-in-Ok-clause-found : goal.returns-in-Ok-clause-found
 unfolding find_part_text
 returns-in-Ok-clause-found g c =
     let asked = asked_by (state g.S.Store c.args.conn.now) (state g.S.Store c.query_row.new.self) (Ok c.in-Ok.row) c.as_bytes.ensures.value c.as_bytes-2.ensures.value c.in-Ok.ensures.row in
-    if_ok c.told_in.result (λ found tells clean. (c.in-Ok.row, asked clean, tells)) c.told_in.ensures.tells
+    if_ok c.told_in.result (λ found tells. (c.query_row.ensures.survives.limit, λ clean. (c.in-Ok.row, asked clean, tells))) c.told_in.ensures.tells
 
 pub returns-in-Ok-clause-unfound : goal.returns-in-Ok-clause-unfound
 unfolding find_part_text
