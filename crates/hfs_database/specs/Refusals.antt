@@ -1,7 +1,7 @@
 -- Why rows are not put, where memory is not what is wanting.
 use Rattle.std.specs.Prelude.{◌≡◌, ◌⊎◌, ⊤, ℕ, ◌^◌, ◌≤◌, ℤ, false, IsTrue, List, [], ◌∷◌, ◌++◌, codes, map, Contains, Ok, Err}
 use Rattle.sqlite.specs.Held.{Held, state}
-use Rattle.sqlite.specs.State.{State, Executes, FailsToQuery, HasCleanDisk, QueriesRow}
+use Rattle.sqlite.specs.State.{State, Executes, FailsToQuery, HasCleanDisk, QueriesRow, Survives}
 use Rattle.sqlite.specs.Store.{Ghosts}
 use Rattle.sqlite.specs.Values.{IsInt}
 use Rattle.sqlite.specs.declared.error.Error.{Error}
@@ -116,9 +116,11 @@ RefusesOne g AreGiven start now = ∥ ((rows : List TakenRow) × AreGiven rows �
 abbrev pub IsUnbegun : {S : Type 0} → Ghosts S → Held S → Held S → Type 0
 IsUnbegun g start new = (IsTrue start.in_transaction × (new ≡ start)) ⊎ FailsToExecute (state g start) (state g new) (codes "BEGIN")
 
--- it can't be committed: none is under way any more, or it is refused
+-- it can't be committed: none is under way any more, so nothing was done, or it is refused; a crash leaves what it left, or all that was put
 abbrev pub IsUncommitted : {S : Type 0} → Ghosts S → Held S → Held S → Type 0
-IsUncommitted g given new = IsOutside given new ⊎ FailsToExecute (state g given) (state g new) (codes "COMMIT")
+IsUncommitted g given new =
+    (IsOutside given new ⊎ FailsToExecute (state g given) (state g new) (codes "COMMIT"))
+    × Survives (state g given) (state g new) (λ db. db ≡ (state g given).now.trees)
 
 -- one is under way, and it can't be rolled back
 abbrev pub IsNotRolledBack : {S : Type 0} → Ghosts S → Held S → Held S → Type 0
