@@ -1,5 +1,6 @@
 //! A taker over memory.
-ghost use Rattle.std.specs.Prelude.{◌≡◌, [], ◌∷◌, ◌++◌, IfOk, OnErr, OnOk};
+ghost use Rattle.std.specs.Prelude.{◌≡◌, [], ◌∷◌, ◌++◌, IfErr, IfOk, OnErr, OnOk};
+ghost use Rattle.hfs_database.specs.declared.row_fault.TakerFault.TheVariants.{NoMemory};
 ghost use Rattle.hfs_database.specs.StoredRows.{stored_rows};
 ghost use Rattle.hfs_database.specs.Taken.{MayEndWith, with_row};
 
@@ -72,6 +73,7 @@ impl RowTaker for MemoryTaker {
         ensures kept { OnErr result (stored_rows self.new.rows.items ≡ stored_rows self.old.rows.items) }
         ensures refused { OnErr result (MayEndWith (stored_rows self.old.rows.items) table values.now
             (stored_rows self.new.rows.items)) }
+        ensures fault { IfErr result (λ fault. fault ≡ NoMemory) }
     {
         let Ok(values) = all_copied(self.alloc, values) else {
             return Err(TakerFault::NoMemory);
